@@ -1,0 +1,61 @@
+//! The library that is measured, through its C interface.
+
+#![allow(dead_code)]
+
+#[cfg(with_routes)]
+extern "C" {
+    fn desk_routes(n: usize, table: *const u64, table_words: usize, a: usize, b: usize, joined: *mut u64, count: *mut u64)
+        -> u64;
+}
+
+#[cfg(with_holding)]
+extern "C" {
+    fn desk_holding(
+        n: usize,
+        table: *const u64,
+        table_words: usize,
+        k: usize,
+        set: *const u64,
+        set_words: usize,
+        verdict: *mut u64,
+        w0: *mut u64,
+        w1: *mut u64,
+        w2: *mut u64,
+        w3: *mut u64,
+    ) -> u64;
+}
+
+#[cfg(with_list)]
+extern "C" {
+    fn desk_list(
+        n: usize,
+        table: *const u64,
+        table_words: usize,
+        k: usize,
+        list: *mut u64,
+        list_words: usize,
+        groups: *mut u64,
+    ) -> u64;
+}
+
+#[cfg(with_routes)]
+pub fn routes(n: usize, table: &[u64], a: usize, b: usize) -> [u64; 3] {
+    let (mut joined, mut count) = (0, 0);
+    let refusal = unsafe { desk_routes(n, table.as_ptr(), table.len(), a, b, &mut joined, &mut count) };
+    [refusal, joined, count]
+}
+
+#[cfg(with_holding)]
+pub fn holding(n: usize, table: &[u64], k: usize, set: &[u64]) -> [u64; 6] {
+    let mut out = [0; 6];
+    let [refusal, verdict, w0, w1, w2, w3] = &mut out;
+    *refusal = unsafe { desk_holding(n, table.as_ptr(), table.len(), k, set.as_ptr(), set.len(), verdict, w0, w1, w2, w3) };
+    out
+}
+
+#[cfg(with_list)]
+pub fn list(n: usize, table: &[u64], k: usize, list: &mut [u64]) -> [u64; 2] {
+    let mut groups = 0;
+    let refusal = unsafe { desk_list(n, table.as_ptr(), table.len(), k, list.as_mut_ptr(), list.len(), &mut groups) };
+    [refusal, groups]
+}

@@ -1,0 +1,2 @@
+pub mod TableTest
+pub mod Card

@@ -1,0 +1,6 @@
+pub mod Marks
+pub mod Way
+pub mod Sweeping
+pub mod Outcome
+pub mod Pair
+pub mod Ends

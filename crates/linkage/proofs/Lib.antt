@@ -1,0 +1,10 @@
+pub mod Chains
+pub mod Cuts
+pub mod Augment
+pub mod Search
+pub mod Sweep
+pub mod Menger
+pub mod Touching
+pub mod Pairs
+pub mod Links
+pub mod Routes

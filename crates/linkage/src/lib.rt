@@ -1,0 +1,1 @@
+// The theory of linkages stands in specs/ and proofs/.

@@ -1,0 +1,12 @@
+pub mod Chains
+pub mod Pruning
+pub mod Division
+pub mod Rows
+pub mod Bound
+pub mod Pieces
+pub mod OnlyOne
+pub mod Decide
+pub mod Decided
+pub mod Covered
+pub mod Shown
+pub mod Past

@@ -1,0 +1,5 @@
+pub mod Mesh
+pub mod Routes
+pub mod Standing
+pub mod SmallMeshes
+pub mod Table

@@ -1,0 +1,2 @@
+-- What the contracts of `pairs` cite.
+pub mod Piece

@@ -1,0 +1,3 @@
+-- What the contracts of `routes` cite.
+pub mod Reply
+pub mod Steps

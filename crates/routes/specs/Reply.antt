@@ -1,0 +1,44 @@
+-- The routes question: its replies in the paper's numbers, and when each is right. Document 01, "Routes and standings" and "Order".
+--   number r, joined r, count r     what the paper calls the reply r: its refusal number (0 where answered), "joined", its count
+--   order n t a b                   "Routes: 2, 3, 4, 7"
+--   Replies n t a b r               r is the reply to the question about stations a and b of the table t of n stations
+use mathlib.Core.Bool.{Bool, true, false}
+use mathlib.Core.List.{List, [], _∷_}
+use mathlib.Core.Path.{_≡_}
+use Prim.Native.Nat.{ℕ}
+use Rattle.stations.specs.Sets.{stations}
+use Rattle.mesh.specs.Table.{linked}
+use Rattle.mesh.specs.Routes.{Most, Least}
+use Rattle.card.specs.Card.{Test, FirstFailing, STATIONS, TABLE-LENGTH, TABLE, PAIR}
+use Rattle.routes.specs.declared.Answer.{Answer}
+use Rattle.routes.specs.declared.Answer.the-variants.{Counted, Joined, Refused}
+
+abbrev pub number : Answer → ℕ
+number (Counted c) = 0
+number Joined = 0
+number (Refused r) = Rattle.card.specs.Card.number r
+
+abbrev pub joined : Answer → Bool
+joined (Counted c) = false
+joined Joined = true
+joined (Refused r) = false
+
+-- "A refusal returns its number, with 0 for every count"; "For a linked pair the reply is joined, count 0"
+abbrev pub count : Answer → ℕ
+count (Counted c) = c
+count Joined = 0
+count (Refused r) = 0
+
+abbrev pub order : ℕ → List ℕ → ℕ → ℕ → List Test
+order n t a b = STATIONS n ∷ TABLE-LENGTH n t ∷ TABLE n t ∷ PAIR n a b ∷ []
+
+pub record Replies (n : ℕ) (t : List ℕ) (a b : ℕ) (r : Answer) : Type 0 where
+  -- refused exactly when a test fails, by the first that does
+  pub refused : FirstFailing (order n t a b) (number r)
+  -- "joined" exactly for a linked pair
+  pub linked-pair : number r ≡ 0 → joined r ≡ linked t a b
+  -- "For two different stations without a link, the routes question gives the greatest number of chains between them that share no station but the
+  -- two ends."
+  pub most : number r ≡ 0 → linked t a b ≡ false → Most (linked t) (stations n) a b (count r)
+  -- "By Menger's theorem this equals the smallest number of other stations whose loss parts them."
+  pub least : number r ≡ 0 → linked t a b ≡ false → Least (linked t) n (stations n) a b (count r)

@@ -1,0 +1,2 @@
+-- What the contracts of the weak pair search cite.
+pub mod Losses

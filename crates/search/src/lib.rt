@@ -1,0 +1,1 @@
+// The laws of the weak pair search: no code, see specs/ and proofs/.

@@ -1,0 +1,9 @@
+pub mod Bools
+pub mod Members
+pub mod Counting
+pub mod Order
+pub mod Bit
+pub mod Ones
+pub mod Laws
+pub mod Walk
+pub mod OnlyOne

@@ -1,0 +1,2 @@
+-- What the contracts of `touch` cite.
+pub mod Reach

@@ -1,0 +1,68 @@
+-- `verdicts::smallest` meets its contract.
+use mathlib.Core.Path.{refl, subst}
+use native.Mathlib.Omega.{arith}
+use borrow.Author.Needs.{needs}
+use Rattle.pairs.specs.Piece.{WeakOf}
+use Rattle.pairs.specs.declared.Settled.{Settled}
+use Rattle.verdicts.proofs.Lowering.{Lower, lower-turn, lower-end}
+use Rattle.verdicts.proofs.smallest.Statement.{statement}
+use Rattle.verdicts.proofs.smallest.Tie as tie
+
+abbrev Inv-loop : tie.InvT-loop
+Inv-loop table p k best₀ level₀ best level = Lower table p k level best
+
+abbrev μ-loop : tie.MeasureT-loop
+μ-loop table p k best₀ level₀ best level = level
+
+-- what the search says at this level
+abbrev told : tie.After-weak Inv-loop μ-loop → Settled → Type 0
+told c = WeakOf (c .before .before .before .args .table .now) (c .before .before .before .args .p) (c .before .loop .level)
+
+loop-holds : tie.Need-loop-holds Inv-loop μ-loop
+loop-holds c = record { most = omega arith; best = refl }
+
+weak-requires : tie.Need-weak-requires Inv-loop μ-loop
+weak-requires c κs = c .before .before .pre
+
+enum-known-r : tie.Need-enum-known-r Inv-loop μ-loop
+enum-known-r c = search needs
+
+size-requires : tie.Need-size-requires Inv-loop μ-loop
+size-requires c κs = tt
+
+loop-less : tie.Need-loop-less Inv-loop μ-loop
+loop-less c =
+    let m = c .before .before .before .before in
+    let w = subst (told m) (c .before .before .r .given .1) (m .weak .ensures) in
+    omega (arith, c .size .ensures, w .loss .few)
+
+loop-again : tie.Need-loop-again Inv-loop μ-loop
+loop-again c =
+    let m = c .before .before .before .before in
+    let s = m .before .before .before in
+    lower-turn (s .args .table .now) (s .args .p) (s .args .k) (m .before .loop .level) (m .before .loop .best) (m .before .loop .inv) _ _ (c .before .before .r .given .0 .1 .1 .0) _
+    (subst (told m) (c .before .before .r .given .1) (m .weak .ensures)) (c .size .ensures)
+
+enum-told : tie.Need-enum-told Inv-loop μ-loop
+enum-told c = search needs
+
+returns : tie.Need-returns Inv-loop μ-loop
+returns c =
+    let m = c .before .before in
+    let s = m .before .before .before in
+    lower-end (s .args .table .now) (s .args .p) (s .args .k) (m .before .loop .level) (m .before .loop .best) (m .before .loop .inv) (subst (told m) (c .enum-told .given .1) (m .weak .ensures))
+
+pub smallest-spec : {M : Type 1} → statement M
+smallest-spec =
+    tie.close
+    (tie.spec
+    Inv-loop
+    μ-loop
+    loop-holds
+    weak-requires
+    enum-known-r
+    size-requires
+    loop-less
+    loop-again
+    enum-told
+    returns)
