@@ -25,8 +25,9 @@ fn main() {
         "routes" => part_routes::run(times, word(3)),
         "holding" => part_holding::run(times),
         "list" => part_list::run(times),
+        "list64" => part_list::write_times(times),
         _ => {
-            eprintln!("bench meshes | routes TIMES [LEMON FILE] | holding TIMES | list TIMES");
+            eprintln!("bench meshes | routes TIMES [LEMON FILE] | holding TIMES | list TIMES | list64 TIMES");
             std::process::exit(2);
         }
     }

@@ -69,3 +69,13 @@ pub fn run(times: usize) {
         }
     }
 }
+
+/// All levels of the meshes of 64 stations, for the peers in Python: name, a tab, the library's nanoseconds.
+pub fn write_times(times: usize) {
+    for mesh in families::for_routes(64) {
+        let mut lists = vec![7; 16 * 1024];
+        let mut lib = Best::new();
+        repeat(times, || lib.take(|| levels(&mesh, &mut lists, library)));
+        println!("{}, {}\t{:.0}", mesh.name, mesh.n, lib.time);
+    }
+}

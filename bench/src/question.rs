@@ -18,15 +18,24 @@ pub fn table_refusal(n: usize, table: &[u64]) -> u64 {
         if row.has(i) || !row.minus(all).is_empty() {
             return 4;
         }
-        let mut left = row;
-        while let Some(j) = left.first() {
-            left = left.without(j);
-            if !Set::of_row(table, j).has(i) {
-                return 4;
-            }
+        if !mirrored(table, i, 0, row.a) || !mirrored(table, i, 64, row.b) || !mirrored(table, i, 128, row.c) || !mirrored(table, i, 192, row.d) {
+            return 4;
         }
     }
     0
+}
+
+/// Each station base + j, for a set bit j of the word, has station i in its row.
+fn mirrored(table: &[u64], i: usize, base: usize, word: u64) -> bool {
+    let mut left = word;
+    while left != 0 {
+        let j = base + left.trailing_zeros() as usize;
+        if table[j * 4 + i / 64] >> (i % 64) & 1 != 1 {
+            return false;
+        }
+        left &= left - 1;
+    }
+    true
 }
 
 /// Refusal, joined, count.

@@ -3,15 +3,18 @@ use mathlib.Core.Bool.{Bool, cond}
 use mathlib.Core.List.{List, [], _∷_, _++_}
 use mathlib.Core.Logic.{_⊎_, inl, inr}
 use mathlib.Core.Path.{_≡_, refl, sym, ap, _∙_}
-use Prim.Native.Nat.{ℕ, zero, suc, _*_, _<_, _≤_}
+use Prim.Native.Nat.{ℕ, zero, suc, _+_, _-_, _*_, _/_, _%_, _<_, _≤_}
 use native.Mathlib.Omega.{arith}
 use native.Mathlib.Decide.{ℕ-discrete}
 use lib.Dec.{eqb}
 use lib.ListN.{length}
-use Rattle.mesh.specs.Table.{Table}
+use borrow.Author.Tests.{le-leb, lt-leb}
+use Rattle.mesh.specs.Mesh.{R}
+use Rattle.mesh.specs.Table.{linked, Table}
+use Rattle.mesh.proofs.NeverMore.{never-more}
 use Rattle.card.specs.declared.Refusal.{Refusal}
 use Rattle.card.specs.declared.Refusal.the-variants.{Level, Stations, TableLength, ListRoom, Set, Station, Mark, Version, Count, Length, Serial, Link, Room, Rows}
-use Rattle.card.specs.Card.{number, Test, FirstFailing, earlier, table-order}
+use Rattle.card.specs.Card.{number, Test, FirstFailing, earlier, table-order, ROWS}
 use Rattle.card.proofs.TableTest.{accepted}
 
 -- two numbers that are both that of the first failing test are the same
@@ -109,3 +112,14 @@ table-passed n t us m f = go (none-fails (table-order n t ++ us) (omega arith, (
 
     go : Passes (table-order n t ++ us) → Table n t × Passes us
     go (few, (h, (fault, rest))) = (accepted n t (omega arith) (long h (ℕ-discrete (length t) (n * 4))) fault, rest)
+
+-- ---- the rows of a list
+pub no-rows : (n k : ℕ) → n ≤ k → 0 ≡ R n k
+no-rows n k l = rw (le-leb n k l)
+
+pub some-rows : (n k : ℕ) → k < n → (n - k) / 2 + (n - k) % 2 ≡ R n k
+some-rows n k l = rw (lt-leb n k l) (omega arith)
+
+-- ---- 15 is never given
+pub rows-pass : (n : ℕ) (t : List ℕ) (k : ℕ) → ¬ (ROWS n t k .fails)
+rows-pass n t k (Ps, d, l) = omega (arith, never-more (linked t) n k Ps d)

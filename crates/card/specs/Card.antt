@@ -9,9 +9,12 @@ use mathlib.Core.Logic.{_⊎_}
 use mathlib.Core.Path.{_≡_}
 use Prim.Native.Nat.{ℕ, zero, suc, _*_, _<_, _≤_}
 use lib.ListN.{length}
+use Rattle.stations.specs.Sets as sets
 use Rattle.stations.specs.Sets.{_is-in_}
 use Rattle.stations.specs.Words.{has}
-use Rattle.mesh.specs.Table.{Fault}
+use Rattle.mesh.specs.Mesh.{R}
+use Rattle.mesh.specs.Dividing.{Dividing, needed}
+use Rattle.mesh.specs.Table.{linked, Fault}
 use Rattle.card.specs.declared.Refusal.{Refusal}
 use Rattle.card.specs.declared.Refusal.the-variants.{Level, Stations, TableLength, Table, ListRoom, Set, Station, Mark, Version, Count, Length, Serial, Link, Room, Rows}
 use Rattle.card.specs.declared.Tested.{Tested}
@@ -74,6 +77,10 @@ TABLE-LENGTH n t = record { refusal = 3; fails = ¬ (length t ≡ n * 4) }
 abbrev pub TABLE : ℕ → List ℕ → Test
 TABLE n t = record { refusal = 4; fails = Fault n t }
 
+-- 5: "list buffer under 4R words"; R goes by n and k even where fewer groups exist
+abbrev pub LIST-ROOM : ℕ → ℕ → ℕ → Test
+LIST-ROOM n k words = record { refusal = 5; fails = words < R n k * 4 }
+
 -- 6: "not four words, or a bit from n up"
 abbrev pub SET : ℕ → List ℕ → Test
 SET n s = record { refusal = 6; fails = (¬ (length s ≡ 4)) ⊎ ((j : ℕ) × (n ≤ j) × (j is-in has s)) }
@@ -85,6 +92,10 @@ STATION n a = record { refusal = 7; fails = n ≤ a }
 -- 7: "a number not below n, or a pair of equal numbers"
 abbrev pub PAIR : ℕ → ℕ → ℕ → Test
 PAIR n a b = record { refusal = 7; fails = (n ≤ a) ⊎ (n ≤ b) ⊎ (a ≡ b) }
+
+-- 15: "while listing, unfinished pieces of more than k stations and finished groups together need more than R rows"
+abbrev pub ROWS : ℕ → List ℕ → ℕ → Test
+ROWS n t k = record { refusal = 15; fails = (Ps : List sets.Set) × Dividing (linked t) n k Ps × (R n k < needed n k Ps) }
 
 -- every order begins with 2, 3, 4
 abbrev pub table-order : ℕ → List ℕ → List Test

@@ -5,8 +5,9 @@ ghost use mathlib.Core.Path.{_≡_};
 ghost use Prim.Native.Nat.{ℕ, _+_, _*_, _<_, _≤_};
 ghost use lib.ListN.{length};
 ghost use Rattle.stations.specs.Words.{bit, members};
+ghost use Rattle.mesh.specs.Mesh.{R};
 ghost use Rattle.mesh.specs.Table.{Fits, Fault};
-ghost use Rattle.card.specs.Card.{number, verdict, earlier, FirstFailing, Says, LEVEL, SET, STATION, PAIR, table-order};
+ghost use Rattle.card.specs.Card.{number, verdict, earlier, FirstFailing, Says, LEVEL, LIST-ROOM, SET, STATION, PAIR, table-order};
 ghost use Rattle.card.specs.Tests.{Mirrored, MirroredRow, RowFault};
 use stations::StationSet;
 
@@ -83,6 +84,27 @@ pub fn test_level(k: usize) -> Tested
     }
     if 16 < k {
         return Tested::Failed(Refusal::Level);
+    }
+    Tested::Passed
+}
+
+// R: the rows that a list at level k needs room for.
+pub fn rows(n: usize, k: usize) -> usize
+    ensures { λ r. ⌜ r ≡ R n k ⌝ }
+{
+    if n <= k {
+        return 0;
+    }
+    let over = n - k;
+    over / 2 + over % 2
+}
+
+// 5: a list of `words` words has room for R rows.
+pub fn test_list_room(n: usize, k: usize, words: usize) -> Tested
+    ensures { λ r. ⌜ FirstFailing (LIST-ROOM n k words ∷ []) (verdict r) ⌝ }
+{
+    if words / 4 < rows(n, k) {
+        return Tested::Failed(Refusal::ListRoom);
     }
     Tested::Passed
 }

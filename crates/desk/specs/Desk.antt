@@ -8,6 +8,16 @@ use Rattle.routes.specs.declared.Answer as routed
 use Rattle.routes.specs.Reply as routes
 use Rattle.holding.specs.declared.Answer as held
 use Rattle.holding.specs.Reply as holding
+use Rattle.groups.specs.declared.Answer as grouped
+use Rattle.groups.specs.Reply as groups
+use Rattle.mesh.specs.Standing.{Standing, PairStanding}
+use Rattle.mesh.specs.Table.{linked}
+use Rattle.standings.specs.declared.Answer as stood
+use Rattle.standings.specs.Reply as standings
+use Rattle.reader.specs.declared.ReadAnswer.{ReadAnswer}
+use Rattle.reader.specs.Reply as reader
+use Rattle.writer.specs.declared.WriteAnswer.{WriteAnswer}
+use Rattle.writer.specs.Reply as writer
 
 -- the routes question
 pub record RoutesDesk (n : ℕ) (t : List ℕ) (a b r joined count : ℕ) : Type 0 where
@@ -24,3 +34,38 @@ pub record HoldingDesk (n : ℕ) (t : List ℕ) (k : ℕ) (s : List ℕ) (r verd
   pub number : r ≡ holding.number answer
   pub told : verdict ≡ holding.verdict answer
   pub weak : (x : ℕ) → has (w0 ∷ w1 ∷ w2 ∷ w3 ∷ []) x ≡ holding.weak-set answer x
+
+-- the list question; l is the list before, l′ the list after
+pub record ListDesk (n : ℕ) (t : List ℕ) (k : ℕ) (l l′ : List ℕ) (r count : ℕ) : Type 0 where
+  pub answer : grouped.Answer
+  pub replies : groups.Replies n t k l l′ answer
+  pub number : r ≡ groups.number answer
+  pub counted : count ≡ groups.count answer
+
+-- standings
+pub record StationDesk (n : ℕ) (t : List ℕ) (a r standing : ℕ) : Type 0 where
+  pub answer : stood.Answer
+  pub replies : standings.Replies (standings.station-order n t a) (Standing (linked t) n a) answer
+  pub number : r ≡ standings.number answer
+  pub stands : standing ≡ standings.level answer
+
+pub record PairDesk (n : ℕ) (t : List ℕ) (a b r standing : ℕ) : Type 0 where
+  pub answer : stood.Answer
+  pub replies : standings.Replies (standings.pair-order n t a b) (PairStanding (linked t) n a b) answer
+  pub number : r ≡ standings.number answer
+  pub stands : standing ≡ standings.level answer
+
+-- survey files; a ′ marks what a lent buffer has afterwards
+pub record ReadDesk (bs serials table serials′ table′ : List ℕ) (r version n links : ℕ) : Type 0 where
+  pub answer : ReadAnswer
+  pub replies : reader.Reads bs serials table serials′ table′ answer
+  pub number : r ≡ reader.number answer
+  pub of-version : version ≡ reader.version answer
+  pub of-stations : n ≡ reader.stations answer
+  pub of-links : links ≡ reader.links answer
+
+pub record WriteDesk (n : ℕ) (serials table bs bs′ : List ℕ) (r length : ℕ) : Type 0 where
+  pub answer : WriteAnswer
+  pub replies : writer.Writes n serials table bs bs′ answer
+  pub number : r ≡ writer.number answer
+  pub of-length : length ≡ writer.file-length answer

@@ -1,7 +1,7 @@
 // The questions for C and Rust callers. A slice is a pointer and then a count of elements. Each function returns the refusal's number, 0 where the
 // question is answered; the numbers lent for the reply are always written.
 ghost use mathlib.Core.Path.{_≡_};
-ghost use Rattle.desk.specs.Desk.{RoutesDesk, HoldingDesk};
+ghost use Rattle.desk.specs.Desk.{RoutesDesk, HoldingDesk, ListDesk, StationDesk, PairDesk, ReadDesk, WriteDesk};
 
 // The routes question: 1 in `joined` for a linked pair, else the number of separate routes in `count`.
 #[no_mangle]
@@ -43,5 +43,87 @@ pub extern "C" fn desk_holding(
     *w1 = weak.b;
     *w2 = weak.c;
     *w3 = weak.d;
+    answer.number()
+}
+
+// The list question: the number of groups in `groups`, and the groups in the list.
+#[no_mangle]
+pub extern "C" fn desk_list(
+    n: usize,
+    table: &[u64],
+    k: usize,
+    list: &mut [u64],
+    groups: &mut u64,
+) -> u64
+    ensures { λ r. ⌜ ListDesk n (now (table .entry)) k (now (list .entry)) (now (list .exit)) r (now (groups .exit)) ⌝ }
+{
+    let answer = groups::groups(n, table, k, list);
+    *groups = answer.count();
+    answer.number()
+}
+
+// The standing of a station.
+#[no_mangle]
+pub extern "C" fn desk_station_standing(
+    n: usize,
+    table: &[u64],
+    a: usize,
+    standing: &mut u64,
+) -> u64
+    ensures { λ r. ⌜ StationDesk n (now (table .entry)) a r (now (standing .exit)) ⌝ }
+{
+    let answer = standings::station_standing(n, table, a);
+    *standing = answer.level();
+    answer.number()
+}
+
+// The standing of a pair.
+#[no_mangle]
+pub extern "C" fn desk_pair_standing(
+    n: usize,
+    table: &[u64],
+    a: usize,
+    b: usize,
+    standing: &mut u64,
+) -> u64
+    ensures { λ r. ⌜ PairDesk n (now (table .entry)) a b r (now (standing .exit)) ⌝ }
+{
+    let answer = standings::pair_standing(n, table, a, b);
+    *standing = answer.level();
+    answer.number()
+}
+
+// The reader of survey files: n serials and 4n table words, and the version, n and the number of links.
+#[no_mangle]
+pub extern "C" fn desk_read(
+    bytes: &[u8],
+    serials: &mut [u32],
+    table: &mut [u64],
+    version: &mut u64,
+    n: &mut u64,
+    links: &mut u64,
+) -> u64
+    ensures { λ r. ⌜ ReadDesk (now (bytes .entry)) (now (serials .entry)) (now (table .entry)) (now (serials .exit)) (now (table .exit)) r (now (version .exit)) (now (n .exit)) (now (links .exit)) ⌝ }
+{
+    let answer = reader::read(bytes, serials, table);
+    *version = answer.version() as u64;
+    *n = answer.stations() as u64;
+    *links = answer.links() as u64;
+    answer.number()
+}
+
+// The writer of survey files: the file's length in `length`.
+#[no_mangle]
+pub extern "C" fn desk_write(
+    n: usize,
+    serials: &[u32],
+    table: &[u64],
+    bytes: &mut [u8],
+    length: &mut u64,
+) -> u64
+    ensures { λ r. ⌜ WriteDesk n (now (serials .entry)) (now (table .entry)) (now (bytes .entry)) (now (bytes .exit)) r (now (length .exit)) ⌝ }
+{
+    let answer = writer::write(n, serials, table, bytes);
+    *length = answer.file_length() as u64;
     answer.number()
 }

@@ -5,72 +5,49 @@ use mathlib.Core.List.{List, [], _∷_}
 use mathlib.Core.Logic.{_≢_, ⊎-elim}
 use mathlib.Core.Path.{_≡_, refl, sym, ap, _∙_}
 use Prim.Native.Nat.{ℕ, zero, suc, _+_, _-_, _*_, _/_, _%_, _^_, _<_, _≤_}
-use native.Mathlib.Nat.{lt-of-le-of-lt, not-suc-le-zero}
+use native.Mathlib.Nat.{not-suc-le-zero}
 use native.Mathlib.Decide.{ℕ-discrete}
 use native.Mathlib.Omega.{arith}
-use lib.Bits.{bitAnd, and-le-l, and-le-r}
+use lib.Bits.{bitAnd}
 use lib.Count.{trailingZeros}
-use lib.Dec.{eqb}
 use lib.ListN.{length, getD, set, length-set}
 use lib.Seq.{getD-set-same, getD-set-other}
-use borrow.Author.Tests.{eqb-true, not-false}
 use Rattle.stations.specs.Words.{bit, has}
-use Rattle.stations.proofs.Bit.{bit-none, bit-rest, trailing-lt, trailing-at}
-use Rattle.stations.proofs.Bools.{test, never, and-left, and-off}
+use Rattle.stations.proofs.Bools.{never}
+use Rattle.stations.proofs.Walk.{Walk, walk-begin, walk-end, walk-small, walk-here, walk-next, walk-past}
 use Rattle.stations.proofs.Laws.{has-at, has-small}
 use Rattle.flow.specs.Search.{at, MarkedIn, Marked, Idle}
 
--- ---- the bits of a word, one at a time: those of x are still to come
+-- ---- the walk over the set bits of a word: those of x are still to come
 pub record Marking (from : List ℕ) (base w g : ℕ) (from′ : List ℕ) (x : ℕ) : Type 0 where
-  pub wide : x < 2 ^ 64
+  pub walk : Walk w x
   pub whole : length from′ ≡ 256
-  pub left : (j : ℕ) → bit x j ≡ true → bit w j ≡ true
   pub new : (j : ℕ) → j < 64 → bit w j ≡ true → bit x j ≡ false → at from′ (base + j) ≡ g
   pub old : (i : ℕ) → ((j : ℕ) → j < 64 → i ≡ base + j → bit w j ≡ false) → at from′ i ≡ at from i
 
 pub marking-none : (from : List ℕ) (base w g : ℕ) → w < 2 ^ 64 → length from ≡ 256 → Marking from base w g from w
-marking-none from base w g h l = record { wide = h; whole = l; left = λ j e. e; new = λ j k e f. (never _ e f); old = λ i n. refl }
+marking-none from base w g h l = record { walk = walk-begin w h; whole = l; new = λ j k e f. (never _ e f); old = λ i n. refl }
 
 pub marking-all : {from : List ℕ} {base w g : ℕ} {from′ : List ℕ} {x : ℕ} → Marking from base w g from′ x → x ≡ 0 → MarkedIn from base w g from′
-marking-all m z = record { whole = m .whole; new = λ j l e. m .new j l e (ap (λ (y : ℕ). bit y j) z ∙ bit-none j); old = m .old }
+marking-all {x = x} m z = record { whole = m .whole; new = λ j l e. m .new j l e (walk-end x j z); old = m .old }
 
-module _ {from : List ℕ} {base w g : ℕ} {from′ : List ℕ} {x : ℕ} (m : Marking from base w g from′ x) (z : x ≡ 0 → ⊥) where
-  abbrev j₀ : ℕ
-  j₀ = trailingZeros 64 x
+pub marking-more : {from : List ℕ} {base w g : ℕ} {from′ : List ℕ} {x : ℕ} → Marking from base w g from′ x → (x ≡ 0 → ⊥) → base ≤ 192
+    → Marking from base w g (set from′ (base + trailingZeros 64 x) g) (bitAnd x (x - 1))
+marking-more {base = base} {g = g} {from′ = from′} {x = x} m z b = record {
+  walk = walk-next (m .walk) z;
+  whole = length-set from′ (base + j₀) g ∙ m .whole;
+  new = λ j l e f. elim (ℕ-discrete j j₀) [
+    | yes q ↦ ap (λ (y : ℕ). at (set from′ (base + j₀) g) (base + y)) q ∙ getD-set-same from′ (base + j₀) g 0 fits
+    | no ne ↦ getD-set-other from′ (base + j₀) (base + j) g 0 (λ q. ne (omega arith)) ∙ m .new j l e (⊎-elim (λ h. h) (λ h. absurd (ne h)) (walk-past (m .walk) z j f))
+  ];
+  old = λ i n. getD-set-other from′ (base + j₀) i g 0 (λ q. never _ (walk-here (m .walk) z) (n j₀ (walk-small (m .walk) z) q)) ∙ m .old i n;
+}
+  where
+    j₀ : ℕ
+    j₀ = trailingZeros 64 x
 
-  pub marking-small : trailingZeros 64 x < 64
-  marking-small = trailing-lt 64 x (m .wide) z
-
-  pub marking-less : bitAnd x (x - 1) < x
-  marking-less = lt-of-le-of-lt (and-le-r x (x - 1)) (go x z)
-    where
-      go : (y : ℕ) → (y ≡ 0 → ⊥) → y - 1 < y
-      go y n = omega arith
-
-  pub marking-more : base ≤ 192 → Marking from base w g (set from′ (base + trailingZeros 64 x) g) (bitAnd x (x - 1))
-  marking-more b = record {
-    wide = lt-of-le-of-lt (and-le-l x (x - 1)) (m .wide);
-    whole = length-set from′ (base + j₀) g ∙ m .whole;
-    left = λ j e. m .left j (ours j e);
-    new = λ j l e f. elim (ℕ-discrete j j₀) [
-      | yes q ↦ ap (λ (y : ℕ). at (set from′ (base + j₀) g) (base + y)) q ∙ getD-set-same from′ (base + j₀) g 0 fits
-      | no ne ↦ getD-set-other from′ (base + j₀) (base + j) g 0 (λ q. ne (omega arith)) ∙ m .new j l e (gone j f ne)
-    ];
-    old = λ i n.
-        getD-set-other from′ (base + j₀) i g 0 (λ q. never _ (m .left j₀ (trailing-at 64 x marking-small)) (n j₀ marking-small q)) ∙ m .old i n;
-  }
-    where
-      fits : base + j₀ < length from′
-      fits = omega (arith, m .whole, marking-small)
-
-      rest : (j : ℕ) → bit (bitAnd x (x - 1)) j ≡ (bit x j && not (eqb j j₀))
-      rest j = bit-rest 64 x (m .wide) z j
-
-      ours : (j : ℕ) → bit (bitAnd x (x - 1)) j ≡ true → bit x j ≡ true
-      ours j e = and-left (bit x j) (not (eqb j j₀)) (sym (rest j) ∙ e)
-
-      gone : (j : ℕ) → bit (bitAnd x (x - 1)) j ≡ false → j ≢ j₀ → bit x j ≡ false
-      gone j f ne = ⊎-elim (λ h. absurd (ne (eqb-true j j₀ (not-false (eqb j j₀) (and-off (bit x j) (not (eqb j j₀)) (sym (rest j) ∙ f) h))))) (λ h. h) (test (bit x j))
+    fits : base + j₀ < length from′
+    fits = omega (arith, m .whole, walk-small (m .walk) z)
 
 -- ---- the four words of a set
 module _ {f₀ f₁ f₂ f₃ f₄ : List ℕ} {a b c d g : ℕ} (m₀ : MarkedIn f₀ 0 a g f₁) (m₁ : MarkedIn f₁ 64 b g f₂) (m₂ : MarkedIn f₂ 128 c g f₃) (m₃ : MarkedIn f₃ 192 d g f₄) where

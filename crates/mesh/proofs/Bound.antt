@@ -12,7 +12,7 @@ use lib.Dec.{leb}
 use borrow.Author.Tests.{leb-true, leb-false}
 use Rattle.stations.specs.Sets.{Set, _is-in_, _not-in_, _part-of_, none, _without_, _cut_, _joined_, size}
 use Rattle.mesh.specs.Mesh.{Links, R}
-use Rattle.mesh.proofs.Division.{Islands}
+use Rattle.mesh.specs.Dividing.{Islands}
 use Rattle.stations.proofs.Bools.{test, never, or-cases, or-left, or-right}
 use Rattle.stations.proofs.Members.{of-without, in-without, same-set}
 use Rattle.stations.proofs.Counting.{size-minus, size-disjoint, Disjoint, size-empty}

@@ -10,11 +10,11 @@ use lib.Dec.{eqb, ltb}
 use borrow.Author.Tests.{eqb-true, eq-eqb, ne-eqb, ltb-true, lt-ltb, not-false}
 use Rattle.stations.specs.Sets.{Set, _is-in_, _not-in_, _part-of_, none, only, stations, _without_, _cut_, _joined_, Below, Before, size, one-if}
 use Rattle.mesh.specs.Mesh.{Links, Mesh, Whole, Holds, Group, Groups, Weak, WeakSet, Reply, HOLDS, FEW, WEAK, Answers}
-use Rattle.mesh.proofs.Decide.{guard, each, wholeb, every, everyPart, holdsb, subb}
+use Rattle.mesh.proofs.Small.Decide.{guard, each, wholeb, every, everyPart, holdsb, subb}
 use Rattle.stations.proofs.Bools.{test, never, and-left, and-right, and-in, or-cases, or-left, or-right, not-true}
 use Rattle.stations.proofs.Members.{of-without, same-set, only-is, is-only}
 use Rattle.stations.proofs.Counting.{size-le, size-sub, size-mono, size-pos, full, least}
-use Rattle.mesh.proofs.Decided.{each-in, guard-in, guard-out, not-past, one-if-le, sub-sound, every-sound, holds-sound, holds-complete}
+use Rattle.mesh.proofs.Small.Decided.{each-in, guard-in, guard-out, not-past, one-if-le, sub-sound, every-sound, holds-sound, holds-complete}
 
 -- holding is decided
 pub holds-dec : (L : Links) (n k : ℕ) (s : Set) → Mesh L → Below n s → Dec (Holds L n k s)

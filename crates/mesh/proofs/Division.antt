@@ -7,18 +7,11 @@ use Prim.Native.Nat.{ℕ, suc, _+_, _≤_, _<_}
 use native.Mathlib.Omega.{arith}
 use Rattle.stations.specs.Sets.{Set, _is-in_, _not-in_, _part-of_, _without_, _cut_, _joined_, size}
 use Rattle.mesh.specs.Mesh.{Links, Mesh, Touch, Whole, Holds}
+use Rattle.mesh.specs.Dividing.{Islands}
 use Rattle.stations.proofs.Bools.{test, never, and-left, and-right, and-in, or-cases, or-left, or-right}
 use Rattle.stations.proofs.Members.{of-without, in-without, same-set}
 use Rattle.stations.proofs.Counting.{size-minus, size-sub, some-station}
 use Rattle.mesh.proofs.Chains.{touch-sub, closed-touch}
-
--- I 0, .., I (t - 1) are the islands of P without S, or some of them taken together: they cover it, no two share a station, and no link leads
--- out of one
-pub record Islands (L : Links) (P S : Set) (t : ℕ) (I : ℕ → Set) : Type 0 where
-  pub inside : (i : ℕ) → i < t → I i part-of P without S
-  pub cover : (x : ℕ) → x is-in P without S → (i : ℕ) × (i < t) × (x is-in I i)
-  pub apart : (i j x : ℕ) → i < t → j < t → x is-in I i → x is-in I j → i ≡ j
-  pub closed : (i x y : ℕ) → i < t → x is-in I i → y is-in P without S → L x y ≡ true → y is-in I i
 
 -- a set that holds lies in one island joined with the loss
 pub divide : (L : Links) (n k : ℕ) (P S H : Set) (t : ℕ) (I : ℕ → Set) → Islands L P S t I → S part-of P → size n S < k

@@ -5,8 +5,8 @@ pub mod Rows
 pub mod Bound
 pub mod Pieces
 pub mod OnlyOne
-pub mod Decide
-pub mod Decided
+pub mod Small
 pub mod Covered
-pub mod Shown
 pub mod Past
+pub mod Sharing
+pub mod NeverMore

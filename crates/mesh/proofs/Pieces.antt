@@ -1,6 +1,7 @@
--- The pieces of a listing as a family of sets. Kept at each step: every set that holds lies in a piece, two pieces share fewer than k stations,
--- the weights add up to at most R. The steps: begin with all stations; shrink a piece; split it in two; drop one of k stations or fewer. When
--- each piece holds, the pieces are the groups (done). A piece parted by a loss is split island by island (halves-..).
+-- The pieces of a listing within a set D, as a family of sets. Kept at each step: every set of D that holds lies in a piece, two pieces share
+-- fewer than k stations, the weights add up to at most that of D. The steps: begin with D; shrink a piece; split it in two; drop one of k stations
+-- or fewer. When each piece holds, the pieces are what was sought (found), and the groups where D is all stations (done). A piece parted by a loss
+-- is split island by island (halves-..).
 use mathlib.Core.Path.{_≡_, refl, sym, _∙_, ap, subst}
 use mathlib.Core.Logic.{_⊎_, inl, inr}
 use mathlib.Core.Bool.{Bool, true, false, cond, not}
@@ -15,7 +16,8 @@ use Rattle.stations.proofs.Bools.{test, never, and-left, and-right, and-in, or-
 use Rattle.stations.proofs.Members.{of-without, in-without, same-set}
 use Rattle.stations.proofs.Counting.{size-sub, size-le}
 use Rattle.mesh.proofs.Bound.{total, weight, total-same, heavy, bound, falls}
-use Rattle.mesh.proofs.Division.{Islands, divide, overlap}
+use Rattle.mesh.proofs.Division.{divide, overlap}
+use Rattle.mesh.specs.Dividing.{Islands}
 use Rattle.mesh.proofs.Rows.{Found, rows}
 
 -- the family Q with A at r
@@ -30,7 +32,7 @@ pub put-other : (Q : ℕ → Set) (r : ℕ) (A : Set) (i : ℕ) → ¬ (i ≡ r)
 unfolding put
 put-other Q r A i d = rw (ne-eqb i r d)
 
-total-put : (c : ℕ) (Q : ℕ → Set) (r : ℕ) (A : Set) (f : Set → ℕ) → r < c → total c (λ i. f (put Q r A i)) + f (Q r) ≡ total c (λ i. f (Q i)) + f A
+pub total-put : (c : ℕ) (Q : ℕ → Set) (r : ℕ) (A : Set) (f : Set → ℕ) → r < c → total c (λ i. f (put Q r A i)) + f (Q r) ≡ total c (λ i. f (Q i)) + f A
 unfolding total
 total-put zero Q r A f l = absurd (omega arith)
 total-put (suc c) Q r A f l = go (ℕ-discrete c r) (total-put c Q r A f)
@@ -63,35 +65,36 @@ total-drop c Q r f w l g = go (ℕ-discrete r c)
     go (yes e) = omega (arith, total-same c (λ i. f (put Q r (Q c) i)) (λ i. f (Q i)) (λ i m. ap f (put-other Q r (Q c) i (λ d. omega arith))))
     go (no d) = omega (arith, total-put c Q r (Q c) f (omega arith))
 
--- every set that holds lies in one of the c pieces, no two share k stations, and their weights add up to at most w
-pub record Pieces (L : Links) (n k w c : ℕ) (Q : ℕ → Set) : Type 0 where
-  pub cover : (H : Set) → Holds L n k H → (i : ℕ) × (i < c) × (H part-of Q i)
+-- the c pieces lie in D, every set of D that holds lies in one of them, no two share k stations, and their weights add up to at most w
+pub record Pieces (L : Links) (n k w : ℕ) (D : Set) (c : ℕ) (Q : ℕ → Set) : Type 0 where
+  pub inside : (i : ℕ) → i < c → Q i part-of D
+  pub cover : (H : Set) → Holds L n k H → H part-of D → (i : ℕ) × (i < c) × (H part-of Q i)
   pub share : (i j : ℕ) → i < c → j < c → ¬ (i ≡ j) → size n (Q i cut Q j) < k
   pub light : total c (λ i. weight k (size n (Q i))) ≤ w
 
-swap : (n : ℕ) (a b : Set) → size n (a cut b) ≤ size n (b cut a)
+pub swap : (n : ℕ) (a b : Set) → size n (a cut b) ≤ size n (b cut a)
 swap n a b = size-sub n (a cut b) (b cut a) (λ x g. and-in (b x) (a x) (and-right (a x) (b x) g) (and-left (a x) (b x) g))
 
-both-sub : (n : ℕ) (a b c d : Set) → a part-of c → b part-of d → size n (a cut b) ≤ size n (c cut d)
+pub both-sub : (n : ℕ) (a b c d : Set) → a part-of c → b part-of d → size n (a cut b) ≤ size n (c cut d)
 both-sub n a b c d f g = size-sub n (a cut b) (c cut d) (λ x h. and-in (c x) (d x) (f x (and-left (a x) (b x) h)) (g x (and-right (a x) (b x) h)))
 
 weight-sub : (k a b : ℕ) → a ≤ b → weight k a ≤ weight k b
 weight-sub k a b h = omega arith
 
-module _ (L : Links) (n k w c : ℕ) (Q : ℕ → Set) (s : Pieces L n k w c Q) (r : ℕ) (l : r < c) where
+module _ (L : Links) (n k w : ℕ) (D : Set) (c : ℕ) (Q : ℕ → Set) (s : Pieces L n k w D c Q) (r : ℕ) (l : r < c) where
   -- a piece becomes smaller, and keeps each set that holds
-  pub shrink : (A : Set) → A part-of Q r → ((H : Set) → Holds L n k H → H part-of Q r → H part-of A) → Pieces L n k w c (put Q r A)
-  shrink A sub keeps = record { cover = cover; share = share; light = light }
+  pub shrink : (A : Set) → A part-of Q r → ((H : Set) → Holds L n k H → H part-of Q r → H part-of A) → Pieces L n k w D c (put Q r A)
+  shrink A sub keeps = record { inside = λ i m x g. s .inside i m x (smaller i (ℕ-discrete i r) x g); cover = cover; share = share; light = light }
     where
       Q' : ℕ → Set
       Q' = put Q r A
 
-      inside : (i : ℕ) → Dec (i ≡ r) → Q' i part-of Q i
-      inside i (yes e) x g = rw e (sub x (rw (ap (put Q r A) e ∙ put-same Q r A) at g))
-      inside i (no d) x g = rw (put-other Q r A i d) at g
+      smaller : (i : ℕ) → Dec (i ≡ r) → Q' i part-of Q i
+      smaller i (yes e) x g = rw e (sub x (rw (ap (put Q r A) e ∙ put-same Q r A) at g))
+      smaller i (no d) x g = rw (put-other Q r A i d) at g
 
-      cover : (H : Set) → Holds L n k H → (i : ℕ) × (i < c) × (H part-of Q' i)
-      cover H h = go (s .cover H h)
+      cover : (H : Set) → Holds L n k H → H part-of D → (i : ℕ) × (i < c) × (H part-of Q' i)
+      cover H h hd = go (s .cover H h hd)
         where
           go : (i : ℕ) × (i < c) × (H part-of Q i) → (i : ℕ) × (i < c) × (H part-of Q' i)
           go (i, m, f) = (i, m, by (ℕ-discrete i r))
@@ -101,7 +104,7 @@ module _ (L : Links) (n k w c : ℕ) (Q : ℕ → Set) (s : Pieces L n k w c Q) 
               by (no d) = rw (put-other Q r A i d) f
 
       share : (i j : ℕ) → i < c → j < c → ¬ (i ≡ j) → size n (Q' i cut Q' j) < k
-      share i j a b d = omega (arith, s .share i j a b d, both-sub n (Q' i) (Q' j) (Q i) (Q j) (inside i (ℕ-discrete i r)) (inside j (ℕ-discrete j r)))
+      share i j a b d = omega (arith, s .share i j a b d, both-sub n (Q' i) (Q' j) (Q i) (Q j) (smaller i (ℕ-discrete i r)) (smaller j (ℕ-discrete j r)))
 
       light : total c (λ i. weight k (size n (Q' i))) ≤ w
       light = let f : Set → ℕ = λ t. weight k (size n t) in
@@ -109,8 +112,8 @@ module _ (L : Links) (n k w c : ℕ) (Q : ℕ → Set) (s : Pieces L n k w c Q) 
 
   -- a piece is divided in two
   pub split : (A B : Set) → A part-of Q r → B part-of Q r → size n (A cut B) < k → weight k (size n A) + weight k (size n B) ≤ weight k (size n (Q r))
-      → ((H : Set) → Holds L n k H → H part-of Q r → (H part-of A) ⊎ (H part-of B)) → Pieces L n k w (suc c) (put (put Q r A) c B)
-  split A B sa sb few lw keeps = record { cover = cover; share = share; light = light }
+      → ((H : Set) → Holds L n k H → H part-of Q r → (H part-of A) ⊎ (H part-of B)) → Pieces L n k w D (suc c) (put (put Q r A) c B)
+  split A B sa sb few lw keeps = record { inside = inside; cover = cover; share = share; light = light }
     where
       Q1 : ℕ → Set
       Q1 = put Q r A
@@ -127,8 +130,8 @@ module _ (L : Links) (n k w c : ℕ) (Q : ℕ → Set) (s : Pieces L n k w c Q) 
       at-i : (i : ℕ) → i < c → ¬ (i ≡ r) → Q' i ≡ Q i
       at-i i m d = put-other Q1 c B i (λ e. omega arith) ∙ put-other Q r A i d
 
-      cover : (H : Set) → Holds L n k H → (i : ℕ) × (i < suc c) × (H part-of Q' i)
-      cover H h = go (s .cover H h)
+      cover : (H : Set) → Holds L n k H → H part-of D → (i : ℕ) × (i < suc c) × (H part-of Q' i)
+      cover H h hd = go (s .cover H h hd)
         where
           two : (H part-of A) ⊎ (H part-of B) → (i : ℕ) × (i < suc c) × (H part-of Q' i)
           two (inl f) = (r, omega arith, rw at-r f)
@@ -150,12 +153,19 @@ module _ (L : Links) (n k w c : ℕ) (Q : ℕ → Set) (s : Pieces L n k w c Q) 
           by (no d) = rw (at-i i m d) (omega (arith, s .share i r m l d, both-sub n (Q i) B (Q i) (Q r) (λ x g. g) sb))
 
       -- two older pieces
-      inside : (i : ℕ) → i < c → Q' i part-of Q i
-      inside i m = by (ℕ-discrete i r)
+      smaller : (i : ℕ) → i < c → Q' i part-of Q i
+      smaller i m = by (ℕ-discrete i r)
         where
           by : Dec (i ≡ r) → Q' i part-of Q i
           by (yes e) x g = rw e (sa x (rw (ap Q' e ∙ at-r) at g))
           by (no d) x g = rw (at-i i m d) at g
+
+      inside : (i : ℕ) → i < suc c → Q' i part-of D
+      inside i m = by (ℕ-discrete i c)
+        where
+          by : Dec (i ≡ c) → Q' i part-of D
+          by (yes e) x g = s .inside r l x (sb x (rw (ap Q' e ∙ at-c) at g))
+          by (no d) x g = s .inside i (omega arith) x (smaller i (omega arith) x g)
 
       share : (i j : ℕ) → i < suc c → j < suc c → ¬ (i ≡ j) → size n (Q' i cut Q' j) < k
       share i j a b d = by (ℕ-discrete i c) (ℕ-discrete j c)
@@ -164,20 +174,27 @@ module _ (L : Links) (n k w c : ℕ) (Q : ℕ → Set) (s : Pieces L n k w c Q) 
           by (yes e) (yes f) = absurd (omega arith)
           by (yes e) (no f) = rw (ap Q' e ∙ at-c) (omega (arith, with-B j (omega arith), swap n B (Q' j)))
           by (no e) (yes f) = rw (ap Q' f ∙ at-c) (with-B i (omega arith))
-          by (no e) (no f) = omega (arith, s .share i j (omega arith) (omega arith) d, both-sub n (Q' i) (Q' j) (Q i) (Q j) (inside i (omega arith)) (inside j (omega arith)))
+          by (no e) (no f) = omega (arith, s .share i j (omega arith) (omega arith) d, both-sub n (Q' i) (Q' j) (Q i) (Q j) (smaller i (omega arith)) (smaller j (omega arith)))
 
       light : total (suc c) (λ i. weight k (size n (Q' i))) ≤ w
       light = total-split c Q r A B (λ t. weight k (size n t)) w l lw (s .light)
 
 -- a piece of k stations or fewer is dropped: the last takes its place
-pub drop : (L : Links) (n k w c : ℕ) (Q : ℕ → Set) → Pieces L n k w (suc c) Q → (r : ℕ) → r < suc c → size n (Q r) ≤ k → Pieces L n k w c (put Q r (Q c))
-drop L n k w c Q s r l small = record { cover = cover; share = share; light = total-drop c Q r (λ t. weight k (size n t)) w l (s .light) }
+pub drop : (L : Links) (n k w : ℕ) (D : Set) (c : ℕ) (Q : ℕ → Set) → Pieces L n k w D (suc c) Q → (r : ℕ) → r < suc c → size n (Q r) ≤ k → Pieces L n k w D c (put Q r (Q c))
+drop L n k w D c Q s r l small = record { inside = inside; cover = cover; share = share; light = total-drop c Q r (λ t. weight k (size n t)) w l (s .light) }
   where
     Q' : ℕ → Set
     Q' = put Q r (Q c)
 
-    cover : (H : Set) → Holds L n k H → (i : ℕ) × (i < c) × (H part-of Q' i)
-    cover H h = go (s .cover H h)
+    inside : (i : ℕ) → i < c → Q' i part-of D
+    inside i m = by (ℕ-discrete i r)
+      where
+        by : Dec (i ≡ r) → Q' i part-of D
+        by (yes e) x g = s .inside c (omega arith) x (rw (ap Q' e ∙ put-same Q r (Q c)) at g)
+        by (no d) x g = s .inside i (omega arith) x (rw (put-other Q r (Q c) i d) at g)
+
+    cover : (H : Set) → Holds L n k H → H part-of D → (i : ℕ) × (i < c) × (H part-of Q' i)
+    cover H h hd = go (s .cover H h hd)
       where
         go : (i : ℕ) × (i < suc c) × (H part-of Q i) → (i : ℕ) × (i < c) × (H part-of Q' i)
         go (i, m, f) = by (ℕ-discrete i r) (ℕ-discrete i c)
@@ -196,27 +213,37 @@ drop L n k w c Q s r l small = record { cover = cover; share = share; light = to
         by (no e) (yes f) = rw (ap Q' f ∙ put-same Q r (Q c), put-other Q r (Q c) i e) (s .share i c (omega arith) (omega arith) (λ g. omega arith))
         by (no e) (no f) = rw (put-other Q r (Q c) i e, put-other Q r (Q c) j f) (s .share i j (omega arith) (omega arith) d)
 
--- the search starts with the set of all stations
-pub begin : (L : Links) (n k : ℕ) → Pieces L n k (weight k n) 1 (λ i. stations n)
-unfolding total
-begin L n k = record {
-  cover = λ H h. (0, omega arith, λ x g. lt-ltb x n (h .below x g));
-  share = λ i j a b d. absurd (omega arith);
-  light = omega (arith, weight-sub k (size n (stations n)) n (size-le n (stations n)));
+-- the same pieces in another family
+pub pieces-same : (L : Links) (n k w : ℕ) (D : Set) (c : ℕ) (Q Q' : ℕ → Set) → Pieces L n k w D c Q → ((i : ℕ) → i < c → Q i ≡ Q' i) → Pieces L n k w D c Q'
+pieces-same L n k w D c Q Q' s e = record {
+  inside = λ i m. subst (λ (z : Set). z part-of D) (e i m) (s .inside i m);
+  cover = λ H h hd. let r = s .cover H h hd in (r .0, r .1, subst (λ (z : Set). H part-of z) (e (r .0) (r .1)) (r .2));
+  share = λ i j a b d. rw (← (e i a), ← (e j b)) (s .share i j a b d);
+  light = omega (arith, s .light, total-same c (λ i. weight k (size n (Q i))) (λ i. weight k (size n (Q' i))) (λ i m. ap (λ (z : Set). weight k (size n z)) (e i m)));
 }
 
--- the pieces of more than k stations are at most w
-pub few-pieces : (L : Links) (n k w c : ℕ) (Q : ℕ → Set) → Pieces L n k w c Q → ((i : ℕ) → i < c → k < size n (Q i)) → c ≤ w
+-- the search starts with D itself
+pub begin : (L : Links) (n k : ℕ) (D : Set) → Pieces L n k (weight k (size n D)) D 1 (λ i. D)
 unfolding total
-few-pieces L n k w c Q s big = omega (arith, go c (λ i. weight k (size n (Q i))) (λ i l. heavy k (size n (Q i)) (big i l)), s .light)
-  where
-    go : (t : ℕ) (f : ℕ → ℕ) → ((i : ℕ) → i < t → 1 ≤ f i) → t ≤ total t f
-    go zero f h = omega arith
-    go (suc t) f h = omega (arith, h t (omega arith), go t f (λ i l. h i (omega arith)))
+begin L n k D = record { inside = λ i m x g. g; cover = λ H h hd. (0, omega arith, hd); share = λ i j a b d. absurd (omega arith); light = omega arith }
 
--- and it ends when each piece holds: the pieces are the groups
-pub done : (L : Links) (n k w c : ℕ) (Q : ℕ → Set) → Pieces L n k w c Q → ((i : ℕ) → i < c → Holds L n k (Q i)) → Groups L n k c Q
-done L n k w c Q s h = rows L n k c Q (record { hold = h; cover = s .cover; share = s .share })
+-- sets of more than k stations are no more than their weights
+pub few-sets : (n k c : ℕ) (Q : ℕ → Set) → ((i : ℕ) → i < c → k < size n (Q i)) → c ≤ total c (λ i. weight k (size n (Q i)))
+unfolding total
+few-sets n k zero Q big = omega arith
+few-sets n k (suc c) Q big = omega (arith, heavy k (size n (Q c)) (big c (omega arith)), few-sets n k c Q (λ i l. big i (omega arith)))
+
+-- the pieces of more than k stations are at most w
+pub few-pieces : (L : Links) (n k w : ℕ) (D : Set) (c : ℕ) (Q : ℕ → Set) → Pieces L n k w D c Q → ((i : ℕ) → i < c → k < size n (Q i)) → c ≤ w
+few-pieces L n k w D c Q s big = omega (arith, few-sets n k c Q big, s .light)
+
+-- and it ends when each piece holds: the pieces are what was sought
+pub found : (L : Links) (n k w : ℕ) (D : Set) (c : ℕ) (Q : ℕ → Set) → Pieces L n k w D c Q → ((i : ℕ) → i < c → Holds L n k (Q i)) → Found L n k D c Q
+found L n k w D c Q s h = record { hold = h; inside = s .inside; cover = s .cover; share = s .share }
+
+-- the groups, where D is all stations
+pub done : (L : Links) (n k w c : ℕ) (Q : ℕ → Set) → Pieces L n k w (stations n) c Q → ((i : ℕ) → i < c → Holds L n k (Q i)) → Groups L n k c Q
+done L n k w c Q s h = rows L n k c Q (found L n k w (stations n) c Q s h)
 
 -- a loss S of fewer than k stations, and stations I of P without S that no link leaves there: P is divided into I with S, and P without I
 module _ (L : Links) (n k : ℕ) (P S I : Set) (m : Mesh L) (sp : S part-of P) (few : size n S < k) (ip : I part-of P without S)

@@ -1,4 +1,5 @@
 pub mod Mesh
+pub mod Dividing
 pub mod Routes
 pub mod Standing
 pub mod SmallMeshes

@@ -1,72 +1,47 @@
 -- The rows of a word's stations, taken one at a time from the lowest bit up (Taken), and of a set's stations, word by word
 -- (spread-four).
-use mathlib.Core.Bool.{true, false, _||_, not}
+use mathlib.Core.Bool.{true, false, _||_}
 use mathlib.Core.List.{List, [], _∷_}
 use mathlib.Core.Logic.{⊎-elim}
 use mathlib.Core.Path.{_≡_, refl, sym, ap, _∙_}
 use Prim.Native.Nat.{ℕ, zero, suc, _+_, _-_, _*_, _/_, _%_, _^_, _<_, _≤_}
-use native.Mathlib.Nat.{lt-of-le-of-lt}
 use native.Mathlib.Omega.{arith}
-use lib.Bits.{bitAnd, and-le-l, and-le-r}
+use lib.Bits.{bitAnd}
 use lib.Count.{trailingZeros}
-use lib.Dec.{eqb}
 use lib.ListN.{getD, length}
-use borrow.Author.Tests.{eqb-true, not-false}
 use Rattle.stations.specs.Sets.{Set, _is-in_, _joined_}
 use Rattle.stations.specs.Words.{bit, has}
-use Rattle.stations.proofs.Bit.{bit-none, bit-rest, trailing-lt, trailing-at}
-use Rattle.stations.proofs.Bools.{test, never, and-left, and-off, or-cases, or-left, or-right}
+use Rattle.stations.proofs.Bools.{never, or-cases, or-left, or-right}
+use Rattle.stations.proofs.Walk.{Walk, walk-begin, walk-end, walk-small, walk-here, walk-next, walk-past}
 use Rattle.stations.proofs.Laws.{has-at, has-small}
 use Rattle.mesh.specs.Mesh.{Links}
 use Rattle.touch.specs.Reach.{RowsOf, Spread, FitsWord}
 
--- ---- the set bits of a word w, one at a time: those of x are still to come, and r has the rows of the others
+-- ---- the walk over the set bits of a word w: those of x are still to come, and r has the rows of the others
 pub record Taken (L : Links) (base w : ℕ) (r : Set) (x : ℕ) : Type 0 where
-  pub wide : x < 2 ^ 64
-  -- what is to come is of w
-  pub left : (j : ℕ) → bit x j ≡ true → bit w j ≡ true
+  pub walk : Walk w x
   pub some : (y : ℕ) → y is-in r → (j : ℕ) × (j < 64) × (bit w j ≡ true) × (L (base + j) y ≡ true)
   pub all : (j y : ℕ) → j < 64 → bit w j ≡ true → bit x j ≡ false → L (base + j) y ≡ true → y is-in r
 
 pub taken-none : (L : Links) (base w : ℕ) (r : Set) → w < 2 ^ 64 → ((y : ℕ) → r y ≡ false) → Taken L base w r w
-taken-none L base w r h z = record {
-  wide = h;
-  left = λ j e. e;
-  some = λ y e. never (r y) e (z y);
-  all = λ j y l e f m. never (bit w j) e f;
-}
+taken-none L base w r h z = record { walk = walk-begin w h; some = λ y e. never (r y) e (z y); all = λ j y l e f m. never (bit w j) e f }
 
 pub taken-all : (L : Links) (base w : ℕ) (r : Set) (x : ℕ) → Taken L base w r x → x ≡ 0 → RowsOf L base w r
-taken-all L base w r x g z = record { some = g .some; all = λ j y l e m. g .all j y l e (ap (λ (v : ℕ). bit v j) z ∙ bit-none j) m }
+taken-all L base w r x g z = record { some = g .some; all = λ j y l e m. g .all j y l e (walk-end x j z) m }
 
-module _ (L : Links) (base w : ℕ) (r : Set) (x : ℕ) (g : Taken L base w r x) (z : x ≡ 0 → ⊥) where
-  abbrev j₀ : ℕ
-  j₀ = trailingZeros 64 x
-
-  pub taken-small : trailingZeros 64 x < 64
-  taken-small = trailing-lt 64 x (g .wide) z
-
-  pub taken-bit : bit w (trailingZeros 64 x) ≡ true
-  taken-bit = g .left j₀ (trailing-at 64 x taken-small)
-
-  pub taken-less : bitAnd x (x - 1) < x
-  taken-less = lt-of-le-of-lt (and-le-r x (x - 1)) (go x z)
-    where
-      go : (y : ℕ) → (y ≡ 0 → ⊥) → y - 1 < y
-      go y n = omega arith
-
-  pub taken-more : (r′ : Set) → ((y : ℕ) → r′ y ≡ (r y || L (base + trailingZeros 64 x) y)) → Taken L base w r′ (bitAnd x (x - 1))
-  taken-more r′ law = record {
-    wide = lt-of-le-of-lt (and-le-l x (x - 1)) (g .wide);
-    left = λ j e. g .left j (and-left (bit x j) (not (eqb j j₀)) (sym (bit-rest 64 x (g .wide) z j) ∙ e));
-    some = λ y e. ⊎-elim (g .some y) (λ f. (j₀, taken-small, taken-bit, f)) (or-cases (r y) (L (base + j₀) y) (sym (law y) ∙ e));
-    all = λ j y l e f m. law y ∙ ⊎-elim
-        (λ h.
-        let same : j ≡ j₀ = eqb-true j j₀ (not-false (eqb j j₀) (and-off (bit x j) (not (eqb j j₀)) (sym (bit-rest 64 x (g .wide) z j) ∙ f) h)) in
-        or-right (r y) (L (base + j₀) y) (ap (λ (i : ℕ). L (base + i) y) (sym same) ∙ m))
-        (λ h. or-left (r y) (L (base + j₀) y) (g .all j y l e h m))
-        (test (bit x j));
-  }
+pub taken-more : (L : Links) (base w : ℕ) (r : Set) (x : ℕ) → Taken L base w r x → (x ≡ 0 → ⊥) → (r′ : Set) → ((y : ℕ) → r′ y ≡ (r y || L (base + trailingZeros 64 x) y))
+    → Taken L base w r′ (bitAnd x (x - 1))
+taken-more L base w r x g z r′ law = record {
+  walk = walk-next (g .walk) z;
+  some = λ y e. ⊎-elim (g .some y) (λ f. (j₀, walk-small (g .walk) z, walk-here (g .walk) z, f)) (or-cases (r y) (L (base + j₀) y) (sym (law y) ∙ e));
+  all = λ j y l e f m. law y ∙ ⊎-elim
+      (λ h. or-left (r y) (L (base + j₀) y) (g .all j y l e h m))
+      (λ h. or-right (r y) (L (base + j₀) y) (ap (λ (i : ℕ). L (base + i) y) (sym h) ∙ m))
+      (walk-past (g .walk) z j f);
+}
+  where
+    j₀ : ℕ
+    j₀ = trailingZeros 64 x
 
 -- ---- the four words of a set
 module _ (a b c d : ℕ) where

@@ -2,13 +2,14 @@
 --   SmallestOf t p k       a weak pair of p whose loss is as small as any and has fewer than k stations, or none
 --   SmallestWeak t p s     s is a weak set of p as small as any
 --   FirstWeak t p s r      r is the weak set of p, where s is one as small as any
+--   JudgedOf L k s         the verdict alone, with some loss
 --   reply                  the reply of the holding question, as document 01 has it
 use mathlib.Core.List.{List}
 use Prim.Native.Nat.{ℕ, _+_, _<_}
 use Rattle.stations.specs.Sets.{Set, _is-in_, _not-in_, _part-of_, size}
 use Rattle.stations.specs.Words.{members}
 use Rattle.stations.specs.declared.StationSet.{StationSet}
-use Rattle.mesh.specs.Mesh.{WeakSet, Reply, HOLDS, FEW, WEAK}
+use Rattle.mesh.specs.Mesh.{Links, WeakSet, Reply, HOLDS, FEW, WEAK, Answers}
 use Rattle.mesh.specs.Table.{linked}
 use Rattle.search.specs.Losses.{every, WeakPair, Smallest, Safe}
 use Rattle.pairs.specs.Piece.{Piece}
@@ -16,6 +17,8 @@ use Rattle.pairs.specs.declared.Settled.{Settled}
 use Rattle.pairs.specs.declared.Settled.the-variants.{Firm, Pair}
 use Rattle.verdicts.specs.declared.Answer.{Answer}
 use Rattle.verdicts.specs.declared.Answer.the-variants.{Holds, Few, Weak}
+use Rattle.verdicts.specs.declared.Judged.{Judged}
+use Rattle.verdicts.specs.declared.Judged.the-variants as judged
 
 abbrev pub SmallestOf : List ℕ → StationSet → ℕ → Settled → Type 0
 SmallestOf t p k Firm = Safe (linked t) 256 every k (members p)
@@ -51,3 +54,9 @@ abbrev pub reply : Answer → Reply
 reply Holds = HOLDS
 reply Few = FEW
 reply (Weak s) = WEAK (members s)
+
+-- the verdict alone, with some loss that parts the set
+abbrev pub JudgedOf : Links → ℕ → Set → Judged → Type 0
+JudgedOf L k s judged.Holds = Answers L 256 k s HOLDS
+JudgedOf L k s judged.Few = Answers L 256 k s FEW
+JudgedOf L k s (judged.Parted p) = (k < size 256 s) × Rattle.mesh.specs.Mesh.Weak L 256 k s (members p)

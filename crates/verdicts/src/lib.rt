@@ -3,7 +3,7 @@ ghost use Rattle.stations.specs.Words.{members};
 ghost use Rattle.mesh.specs.Table.{linked};
 ghost use Rattle.mesh.specs.Mesh.{Answers};
 ghost use Rattle.pairs.specs.Piece.{Piece};
-ghost use Rattle.verdicts.specs.Verdicts.{SmallestOf, SmallestWeak, FirstWeak, Trial, Led, reply};
+ghost use Rattle.verdicts.specs.Verdicts.{SmallestOf, SmallestWeak, FirstWeak, Trial, Led, reply, JudgedOf};
 use pairs::Settled;
 use stations::Found;
 use stations::StationSet;
@@ -13,6 +13,13 @@ pub enum Answer {
     Holds,
     Few,
     Weak(StationSet),
+}
+
+// A verdict with some loss that parts the set, not the smallest and first: one search.
+pub enum Judged {
+    Holds,
+    Few,
+    Parted(StationSet),
 }
 
 // A weak pair whose loss is as small as any: each loss found lowers the level asked for.
@@ -99,5 +106,21 @@ pub fn verdict(table: &[u64], p: StationSet, k: usize) -> Answer
     match r {
         Settled::Pair(_, _, s) => Answer::Weak(first_weak(table, p, s)),
         Settled::Firm => Answer::Holds,
+    }
+}
+
+// The verdict alone: does the set hold at k, has it k stations or fewer, or does some loss of fewer than k part it?
+pub fn judge(table: &[u64], p: StationSet, k: usize) -> Judged
+    requires { ⌜ Piece (now table) p ⌝ }
+    ensures { λ r. ⌜ JudgedOf (linked (now (table .entry))) k (members p) r ⌝ }
+{
+    let size = p.size();
+    if size <= k {
+        return Judged::Few;
+    }
+    let r = pairs::weak(table, p, k);
+    match r {
+        Settled::Pair(_, _, s) => Judged::Parted(s),
+        Settled::Firm => Judged::Holds,
     }
 }

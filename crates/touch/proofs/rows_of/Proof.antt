@@ -4,7 +4,8 @@ use borrow.Author.Needs.{needs}
 use lib.Count.{trailingZeros}
 use Rattle.stations.specs.Words.{members}
 use Rattle.mesh.specs.Table.{linked}
-use Rattle.touch.proofs.Rows.{Taken, taken-none, taken-all, taken-small, taken-bit, taken-less, taken-more}
+use Rattle.touch.proofs.Rows.{Taken, taken-none, taken-all, taken-more}
+use Rattle.stations.proofs.Walk.{walk-small, walk-here, walk-less}
 use Rattle.touch.proofs.rows_of.Statement.{statement}
 use Rattle.touch.proofs.rows_of.Tie as tie
 
@@ -32,7 +33,7 @@ of-row-requires c κs =
     let z = c .before .loop-test .taken in
     omega (
       arith,
-      l .before .before .before .pre .1 (trailingZeros 64 (l .loop .x)) (taken-small _ _ _ _ _ (l .loop .inv) z) (taken-bit _ _ _ _ _ (l .loop .inv) z),
+      l .before .before .before .pre .1 (trailingZeros 64 (l .loop .x)) (walk-small (l .loop .inv .walk) z) (walk-here (l .loop .inv .walk) z),
       c .low-bit .ensures .0,
     )
 
@@ -43,7 +44,7 @@ sub-x : tie.Need-sub-x Inv-loop μ-loop
 sub-x c = search needs
 
 loop-less : tie.Need-loop-less Inv-loop μ-loop
-loop-less c = taken-less _ _ _ _ _ (c .before .before .before .before .loop .inv) (c .before .before .before .loop-test .taken)
+loop-less c = walk-less (c .before .before .before .before .loop .inv .walk) (c .before .before .before .loop-test .taken)
 
 loop-again : tie.Need-loop-again Inv-loop μ-loop
 loop-again c = taken-more _ _ _ _ _ (c .before .before .before .before .loop .inv) (c .before .before .before .loop-test .taken) _ (λ k. simp (c .join .ensures, c .before .of-row .ensures, c .before .before .low-bit .ensures .0))

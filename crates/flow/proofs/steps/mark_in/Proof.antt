@@ -3,7 +3,8 @@ use mathlib.Core.Path.{_≡_}
 use native.Mathlib.Omega.{arith}
 use lib.ListN.{length}
 use borrow.Author.Needs.{needs}
-use Rattle.flow.proofs.Marks.{Marking, marking-none, marking-all, marking-small, marking-less, marking-more}
+use Rattle.flow.proofs.Marks.{Marking, marking-none, marking-all, marking-more}
+use Rattle.stations.proofs.Walk.{walk-small, walk-less}
 use Rattle.flow.proofs.steps.mark_in.Statement.{statement}
 use Rattle.flow.proofs.steps.mark_in.Tie as tie
 use Rattle.flow.proofs.steps.mark_in.Reads as reads
@@ -26,13 +27,13 @@ add-j : tie.Need-add-j Inv-loop μ-loop
 add-j c = search needs
 
 element-write-from : tie.Need-element-write-from Inv-loop μ-loop
-element-write-from c = omega (arith, marking-small (c .before .before .loop .inv .1) (c .before .loop-test .taken))
+element-write-from c = omega (arith, walk-small (c .before .before .loop .inv .1 .walk) (c .before .loop-test .taken))
 
 sub-x : tie.Need-sub-x Inv-loop μ-loop
 sub-x c = search needs
 
 loop-less : tie.Need-loop-less Inv-loop μ-loop
-loop-less c = marking-less (c .before .before .loop .inv .1) (c .before .loop-test .taken)
+loop-less c = walk-less (c .before .before .loop .inv .1 .walk) (c .before .loop-test .taken)
 
 loop-again : tie.Need-loop-again Inv-loop μ-loop
 loop-again c = (search needs, rw (c .low-bit .ensures .0) (marking-more (c .before .before .loop .inv .1) (c .before .loop-test .taken) (c .before .before .before .pre .0)))

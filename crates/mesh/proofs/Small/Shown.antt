@@ -11,11 +11,11 @@ use lib.ListN.{length}
 use borrow.Author.Tests.{eqb-true, eqb-false, eq-eqb, ltb-true, leb-true, lt-ltb}
 use Rattle.stations.specs.Sets.{Set, _is-in_, _not-in_, Below, Before, size, stations, none}
 use Rattle.mesh.specs.Mesh.{Links, Mesh, Holds, Groups, Listed, Reply, HOLDS, FEW, WEAK, Answers}
-use Rattle.mesh.proofs.Decide.{guard, any, each, memo, grow, reach, pick, wholeb, every, everyPart, holdsb, subb, notAfter, weakSetb, groupsb}
+use Rattle.mesh.proofs.Small.Decide.{guard, any, each, memo, grow, reach, pick, wholeb, every, everyPart, holdsb, subb, notAfter, weakSetb, groupsb}
 use Rattle.mesh.specs.SmallMeshes.{setOf, Link, _–_, linksOf, rowOf, Line, holds, few, weak, groups, Right, All, five, ring, four, fours, six, triangles, table}
 use Rattle.stations.proofs.Bools.{test, never, and-left, and-right, and-in, or-cases, or-left, or-right, not-true}
 use Rattle.stations.proofs.Members.{only-is}
-use Rattle.mesh.proofs.Decided.{each-out, holds-sound, weakSet-sound, groups-sound, not-after}
+use Rattle.mesh.proofs.Small.Decided.{each-out, holds-sound, weakSet-sound, groups-sound, not-after}
 use Rattle.stations.proofs.Order.{before-not-self}
 
 -- every station of a list is below n

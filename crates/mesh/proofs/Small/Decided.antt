@@ -10,7 +10,7 @@ use lib.Dec.{eqb, ltb}
 use borrow.Author.Tests.{eqb-true, eq-eqb, ne-eqb, ltb-true, lt-ltb}
 use Rattle.stations.specs.Sets.{Set, _is-in_, _not-in_, _part-of_, none, only, _without_, _cut_, _joined_, Below, stations, Before, size, one-if}
 use Rattle.mesh.specs.Mesh.{Links, Mesh, Touch, here, step, Whole, Holds, Weak, WeakSet, Groups, Listed}
-use Rattle.mesh.proofs.Decide.{guard, choose, any, each, memo, grow, reach, pick, wholeb, every, everyPart, holdsb, subb, notAfter, weakSetb, groupsb}
+use Rattle.mesh.proofs.Small.Decide.{guard, choose, any, each, memo, grow, reach, pick, wholeb, every, everyPart, holdsb, subb, notAfter, weakSetb, groupsb}
 use Rattle.mesh.proofs.Rows.{rows}
 use Rattle.stations.proofs.Bools.{test, never, and-left, and-right, and-in, or-cases, or-left, or-right, not-true}
 use Rattle.stations.proofs.Members.{of-without, in-without, same-set, only-is, is-only, not-only}
@@ -432,7 +432,8 @@ pub groups-sound : (L : Links) (n k g : ℕ) (R : ℕ → Set) → Mesh L → ((
 unfolding groupsb
 groups-sound L n k g R m rn h = rows L n k g R (record {
   hold = λ i l. holds-sound L n k (R i) m (rn i l) (each-out g (λ i. holdsb L n k (R i)) (and-left c1 c2 (and-left (c1 && c2) c3 h)) i l);
-  cover = λ H hH. by-cover H hH;
+  inside = λ i l x a. lt-ltb x n (rn i l x a);
+  cover = λ H hH hD. by-cover H hH;
   share = λ i j l r d. by-share i j l r d;
 })
   where

@@ -1,0 +1,3 @@
+-- What the contracts of `standings` cite.
+pub mod Reply
+pub mod Steps

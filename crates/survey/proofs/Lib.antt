@@ -1,0 +1,4 @@
+pub mod Ranks
+pub mod OneSurvey
+pub mod OnlyOne
+pub mod RoundTrips

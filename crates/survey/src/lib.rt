@@ -1,0 +1,1 @@
+// The laws of survey files: no code, see proofs/.
