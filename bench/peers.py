@@ -1,15 +1,14 @@
 #!/usr/bin/env python3
 """The Python peers of the list question, on the meshes of 64 stations.
 
-  bench/peers.py MESHES TIMES     MESHES as the bench writes them; TIMES a line a mesh: its name, a tab, the library's nanoseconds for all levels
+  bench/peers.py MESHES TIMES [SECONDS]     MESHES as the bench writes them; TIMES a line a mesh: its name, a tab, the library's nanoseconds for all levels
 
-networkx's k_components and igraph's cohesive_blocks are asked once a mesh, each in a process of its own and for 60 seconds at the most. A peer that
+networkx's k_components and igraph's cohesive_blocks are asked once a mesh, each in a process of its own and for SECONDS (60) at the most. A peer that
 no Python of this machine can import is skipped with a word."""
 import subprocess
 import sys
 import time
 
-LIMIT = 60
 PYTHONS = [sys.executable, "/usr/bin/python3"]
 
 
@@ -53,12 +52,12 @@ def python_of(module):
     return None
 
 
-def ask(python, peer, meshes, name):
+def ask(python, peer, meshes, name, limit):
     """Seconds, or a word."""
     try:
-        done = subprocess.run([python, __file__, "--one", peer, meshes, name], stdout=subprocess.PIPE, stderr=subprocess.DEVNULL, timeout=LIMIT)
+        done = subprocess.run([python, __file__, "--one", peer, meshes, name], stdout=subprocess.PIPE, stderr=subprocess.DEVNULL, timeout=limit)
     except subprocess.TimeoutExpired:
-        return "over %d s" % LIMIT
+        return "over %d s" % limit
     return float(done.stdout) if done.returncode == 0 else "failed"
 
 
@@ -68,6 +67,7 @@ def main():
         print(PEERS[peer](*read(meshes)[name]))
         return
     times = dict(line.rstrip("\n").split("\t") for line in open(sys.argv[2]))
+    limit = int(sys.argv[3]) if len(sys.argv) > 3 else 60
     pythons = {peer: python_of(peer) for peer in PEERS}
     print("| Mesh of 64 stations | Library, all levels | networkx k_components | times slower | igraph cohesive_blocks | times slower |")
     print("|---|---|---|---|---|---|")
@@ -75,7 +75,7 @@ def main():
         own = float(times[name]) / 1e9
         row = [name, "%.1f us" % (own * 1e6)]
         for peer in PEERS:
-            seconds = ask(pythons[peer], peer, sys.argv[1], name) if pythons[peer] else "not installed: skipped"
+            seconds = ask(pythons[peer], peer, sys.argv[1], name, limit) if pythons[peer] else "not installed: skipped"
             if isinstance(seconds, float):
                 row += ["%.1f ms" % (seconds * 1e3), "%.0f" % (seconds / own)]
             else:

@@ -22,6 +22,10 @@ uint64_t desk_routes(size_t n, const uint64_t *table, size_t table_words, size_t
 uint64_t desk_holding(size_t n, const uint64_t *table, size_t table_words, size_t k, const uint64_t *set, size_t set_words,
                       uint64_t *verdict, uint64_t *w0, uint64_t *w1, uint64_t *w2, uint64_t *w3);
 
+/* The holding question for the verdict alone, without the weak set: one search. *verdict as above. Refusals in the order 2, 3, 4, 1, 6. */
+uint64_t desk_verdict(size_t n, const uint64_t *table, size_t table_words, size_t k, const uint64_t *set, size_t set_words,
+                      uint64_t *verdict);
+
 /* The list question: all groups at level k, in order, four words a group from the start of the list; *groups is how many. With R = 0 where n is k or
  * less, else (n - k + 1) / 2 rounded down, the list needs 4R words: the words of the R rows past the groups become 0, and words past 4R stay. On a
  * refusal the list stays as it was. Refusals in the order 2, 3, 4, 1, 5. */

@@ -17,7 +17,10 @@ const WEAK: u64 = 2;
 
 fn ask(desk: &mut Desk, tally: &mut Tally, n: usize, table: &[u64], k: usize, set: &[u64], here: [u64; 6]) {
     let library = desk.holding(n, table, k, set);
-    tally.same(here[0], &library, &here, || format!("holding n {} k {} set {:x?} table {:x?}", n, k, set, table));
+    // the verdict alone says the same, without the set
+    let [refusal, verdict, w0, w1, w2, w3] = here;
+    let here = [refusal, verdict, w0, w1, w2, w3, refusal, verdict];
+    tally.same(refusal, &library, &here, || format!("holding n {} k {} set {:x?} table {:x?}", n, k, set, table));
 }
 
 /// The stations `place[i]` of the mask's i, as four words.

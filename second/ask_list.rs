@@ -72,7 +72,7 @@ fn ask(
         // every listed group, asked about where it stands in the list
         for i in 0..numbers[1] as usize {
             let verdict = desk.holding(n, table, k, &list[4 * i..4 * i + 4]);
-            tally.same(0, &verdict, &[0, crate::ask_holding::HOLDS, 0, 0, 0, 0], || {
+            tally.same(0, &verdict, &[0, crate::ask_holding::HOLDS, 0, 0, 0, 0, 0, crate::ask_holding::HOLDS], || {
                 format!("row {} of list n {} k {} table {:x?}", i, n, k, table)
             });
         }

@@ -12,6 +12,7 @@ void _exit(int code);
 u64 desk_routes(u64 n, const u64 *table, u64 table_words, u64 a, u64 b, u64 *joined, u64 *count);
 u64 desk_holding(u64 n, const u64 *table, u64 table_words, u64 k, const u64 *set, u64 set_words,
                  u64 *verdict, u64 *w0, u64 *w1, u64 *w2, u64 *w3);
+u64 desk_verdict(u64 n, const u64 *table, u64 table_words, u64 k, const u64 *set, u64 set_words, u64 *verdict);
 u64 desk_list(u64 n, const u64 *table, u64 table_words, u64 k, u64 *list, u64 list_words, u64 *groups);
 u64 desk_station_standing(u64 n, const u64 *table, u64 table_words, u64 a, u64 *standing);
 u64 desk_pair_standing(u64 n, const u64 *table, u64 table_words, u64 a, u64 b, u64 *standing);
@@ -85,7 +86,8 @@ int main(void) {
             take_words(table, ask[2]);
             take_words(set, ask[4]);
             out[0] = desk_holding(ask[1], table, ask[2], ask[3], set, ask[4], out + 1, out + 2, out + 3, out + 4, out + 5);
-            give(out, 48);
+            out[6] = desk_verdict(ask[1], table, ask[2], ask[3], set, ask[4], out + 7);
+            give(out, 64);
             break;
 #endif
 #ifdef WITH_LIST

@@ -22,6 +22,16 @@ extern "C" {
         w2: *mut u64,
         w3: *mut u64,
     ) -> u64;
+    #[cfg(with_holding)]
+    fn desk_verdict(
+        n: usize,
+        table: *const u64,
+        table_words: usize,
+        k: usize,
+        set: *const u64,
+        set_words: usize,
+        verdict: *mut u64,
+    ) -> u64;
     #[cfg(with_list)]
     fn desk_list(
         n: usize,
@@ -77,10 +87,12 @@ impl Desk {
     }
 
     #[cfg(with_holding)]
-    pub fn holding(&mut self, n: usize, table: &[u64], k: usize, set: &[u64]) -> [u64; 6] {
-        let mut out = [UNWRITTEN; 6];
-        let [refusal, verdict, w0, w1, w2, w3] = &mut out;
+    /// The holding question, and then the verdict alone.
+    pub fn holding(&mut self, n: usize, table: &[u64], k: usize, set: &[u64]) -> [u64; 8] {
+        let mut out = [UNWRITTEN; 8];
+        let [refusal, verdict, w0, w1, w2, w3, alone, brief] = &mut out;
         *refusal = unsafe { desk_holding(n, table.as_ptr(), table.len(), k, set.as_ptr(), set.len(), verdict, w0, w1, w2, w3) };
+        *alone = unsafe { desk_verdict(n, table.as_ptr(), table.len(), k, set.as_ptr(), set.len(), brief) };
         out
     }
 

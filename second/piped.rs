@@ -97,13 +97,14 @@ impl Desk {
         out
     }
 
-    pub fn holding(&mut self, n: usize, table: &[u64], k: usize, set: &[u64]) -> [u64; 6] {
+    /// The holding question, and then the verdict alone.
+    pub fn holding(&mut self, n: usize, table: &[u64], k: usize, set: &[u64]) -> [u64; 8] {
         self.question.clear();
         self.say(&[2, n as u64, table.len() as u64, k as u64, set.len() as u64]);
         self.say(table);
         self.say(set);
         self.send();
-        let mut out = [0; 6];
+        let mut out = [0; 8];
         self.get(&mut out);
         out
     }

@@ -25,6 +25,26 @@ extern "C" {
     ) -> u64;
 }
 
+#[cfg(with_holding)]
+extern "C" {
+    fn desk_verdict(
+        n: usize,
+        table: *const u64,
+        table_words: usize,
+        k: usize,
+        set: *const u64,
+        set_words: usize,
+        verdict: *mut u64,
+    ) -> u64;
+}
+
+#[cfg(with_holding)]
+pub fn verdict(n: usize, table: &[u64], k: usize, set: &[u64]) -> [u64; 2] {
+    let mut verdict = 0;
+    let refusal = unsafe { desk_verdict(n, table.as_ptr(), table.len(), k, set.as_ptr(), set.len(), &mut verdict) };
+    [refusal, verdict]
+}
+
 #[cfg(with_list)]
 extern "C" {
     fn desk_list(
@@ -36,6 +56,50 @@ extern "C" {
         list_words: usize,
         groups: *mut u64,
     ) -> u64;
+}
+
+#[cfg(with_files)]
+extern "C" {
+    fn desk_read(
+        bytes: *const u8,
+        count: usize,
+        serials: *mut u32,
+        serial_count: usize,
+        table: *mut u64,
+        table_words: usize,
+        version: *mut u64,
+        n: *mut u64,
+        links: *mut u64,
+    ) -> u64;
+    fn desk_write(
+        n: usize,
+        serials: *const u32,
+        serial_count: usize,
+        table: *const u64,
+        table_words: usize,
+        bytes: *mut u8,
+        count: usize,
+        length: *mut u64,
+    ) -> u64;
+}
+
+#[cfg(with_files)]
+pub fn read(bytes: &[u8], serials: &mut [u32], table: &mut [u64]) -> [u64; 4] {
+    let mut out = [0; 4];
+    let [refusal, version, n, links] = &mut out;
+    *refusal = unsafe {
+        desk_read(bytes.as_ptr(), bytes.len(), serials.as_mut_ptr(), serials.len(), table.as_mut_ptr(), table.len(), version, n, links)
+    };
+    out
+}
+
+#[cfg(with_files)]
+pub fn write(n: usize, serials: &[u32], table: &[u64], bytes: &mut [u8]) -> [u64; 2] {
+    let mut length = 0;
+    let refusal = unsafe {
+        desk_write(n, serials.as_ptr(), serials.len(), table.as_ptr(), table.len(), bytes.as_mut_ptr(), bytes.len(), &mut length)
+    };
+    [refusal, length]
 }
 
 #[cfg(with_routes)]

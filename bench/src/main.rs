@@ -4,12 +4,16 @@
 //!     bench routes  TIMES [LEMON FILE]  best of TIMES repetitions
 //!     bench holding TIMES
 //!     bench list    TIMES
+//!     bench list64  TIMES              the library's times for the peers in Python
+//!     bench files   TIMES
 
 mod desk;
 mod engine;
 mod families;
+mod files;
 mod flow;
 mod measure;
+mod part_files;
 mod part_holding;
 mod part_list;
 mod part_routes;
@@ -25,9 +29,10 @@ fn main() {
         "routes" => part_routes::run(times, word(3)),
         "holding" => part_holding::run(times),
         "list" => part_list::run(times),
+        "files" => part_files::run(times),
         "list64" => part_list::write_times(times),
         _ => {
-            eprintln!("bench meshes | routes TIMES [LEMON FILE] | holding TIMES | list TIMES | list64 TIMES");
+            eprintln!("bench meshes | routes TIMES [LEMON FILE] | holding TIMES | list TIMES | list64 TIMES | files TIMES");
             std::process::exit(2);
         }
     }

@@ -78,6 +78,28 @@ pub fn holding_question(n: usize, table: &[u64], k: usize, set: &[u64]) -> [u64;
     }
 }
 
+/// Refusal, verdict.
+pub fn verdict_question(n: usize, table: &[u64], k: usize, set: &[u64]) -> [u64; 2] {
+    let refusal = table_refusal(n, table);
+    if refusal != 0 {
+        return [refusal, 0];
+    }
+    if k == 0 || k > 16 {
+        return [1, 0];
+    }
+    if set.len() != 4 || !Set::of_row(set, 0).minus(Set::first_n(n)).is_empty() {
+        return [6, 0];
+    }
+    let p = Set::of_row(set, 0);
+    if p.size() <= k {
+        return [0, 1];
+    }
+    match engine::weak(table, p, k) {
+        None => [0, 0],
+        Some(_) => [0, 2],
+    }
+}
+
 /// Refusal, number of groups; the list is filled.
 pub fn list_question(n: usize, table: &[u64], k: usize, list: &mut [u64]) -> [u64; 2] {
     let refusal = table_refusal(n, table);

@@ -10,7 +10,7 @@ use Rattle.routes.specs.Reply as routes
 use Rattle.routes.proofs.OnlyOne.{routes-only-one}
 use Rattle.holding.specs.declared.Answer as held
 use Rattle.holding.specs.Reply as holding
-use Rattle.holding.proofs.OnlyOne.{holding-one}
+use Rattle.holding.proofs.OnlyOne.{holding-one, judged-only-one}
 use Rattle.groups.specs.declared.Answer as grouped
 use Rattle.groups.specs.Reply as groups
 use Rattle.groups.proofs.OnlyOne.{list-only-one}
@@ -20,7 +20,7 @@ use Rattle.standings.proofs.OnlyOne.{station-only-one, pair-only-one}
 use Rattle.reader.specs.Reply as reader
 use Rattle.writer.specs.Reply as writer
 use Rattle.survey.proofs.OnlyOne.{reader-only-one, writer-only-one}
-use Rattle.desk.specs.Desk.{RoutesDesk, HoldingDesk, ListDesk, StationDesk, PairDesk, ReadDesk, WriteDesk}
+use Rattle.desk.specs.Desk.{RoutesDesk, HoldingDesk, VerdictDesk, ListDesk, StationDesk, PairDesk, ReadDesk, WriteDesk}
 
 pub routes-desk-only-one : (n : ℕ) (t : List ℕ) (a b r j c r′ j′ c′ : ℕ) → RoutesDesk n t a b r j c → RoutesDesk n t a b r′ j′ c′ → (r ≡ r′) × (j ≡ j′) × (c ≡ c′)
 routes-desk-only-one n t a b r j c r′ j′ c′ p q =
@@ -40,6 +40,11 @@ holding-desk-only-one n t k s r v w0 w1 w2 w3 r′ v′ w0′ w1′ w2′ w3′ 
       p .told ∙ f ∙ sym (q .told),
       members-same (w0 ∷ w1 ∷ w2 ∷ w3 ∷ []) (w0′ ∷ w1′ ∷ w2′ ∷ w3′ ∷ []) refl refl a b (λ x. p .weak x ∙ ap (λ (z : Set). z x) g ∙ sym (q .weak x)),
     )
+
+pub verdict-desk-only-one : (n : ℕ) (t : List ℕ) (k : ℕ) (s : List ℕ) (r v r′ v′ : ℕ) → VerdictDesk n t k s r v → VerdictDesk n t k s r′ v′ → (r ≡ r′) × (v ≡ v′)
+verdict-desk-only-one n t k s r v r′ v′ p q =
+    let e = judged-only-one n t k s (p .brief) (q .brief) (p .replies) (q .replies) in
+    (p .number ∙ ap holding.brief-number e ∙ sym (q .number), p .told ∙ ap holding.brief-verdict e ∙ sym (q .told))
 
 -- the words of a list are words of 64 bits (Wide), which their type says
 pub list-desk-only-one : (n : ℕ) (t : List ℕ) (k : ℕ) (l a b : List ℕ) (r g r′ g′ : ℕ) → Wide a → Wide b → ListDesk n t k l a r g → ListDesk n t k l b r′ g′

@@ -7,6 +7,7 @@ use Rattle.stations.specs.Words.{has}
 use Rattle.routes.specs.declared.Answer as routed
 use Rattle.routes.specs.Reply as routes
 use Rattle.holding.specs.declared.Answer as held
+use Rattle.holding.specs.declared.Brief as briefly
 use Rattle.holding.specs.Reply as holding
 use Rattle.groups.specs.declared.Answer as grouped
 use Rattle.groups.specs.Reply as groups
@@ -34,6 +35,13 @@ pub record HoldingDesk (n : ℕ) (t : List ℕ) (k : ℕ) (s : List ℕ) (r verd
   pub number : r ≡ holding.number answer
   pub told : verdict ≡ holding.verdict answer
   pub weak : (x : ℕ) → has (w0 ∷ w1 ∷ w2 ∷ w3 ∷ []) x ≡ holding.weak-set answer x
+
+-- the verdict alone
+pub record VerdictDesk (n : ℕ) (t : List ℕ) (k : ℕ) (s : List ℕ) (r verdict : ℕ) : Type 0 where
+  pub brief : briefly.Brief
+  pub replies : holding.Judges n t k s brief
+  pub number : r ≡ holding.brief-number brief
+  pub told : verdict ≡ holding.brief-verdict brief
 
 -- the list question; l is the list before, l′ the list after
 pub record ListDesk (n : ℕ) (t : List ℕ) (k : ℕ) (l l′ : List ℕ) (r count : ℕ) : Type 0 where

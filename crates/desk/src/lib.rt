@@ -1,7 +1,7 @@
 // The questions for C and Rust callers. A slice is a pointer and then a count of elements. Each function returns the refusal's number, 0 where the
 // question is answered; the numbers lent for the reply are always written.
 ghost use mathlib.Core.Path.{_≡_};
-ghost use Rattle.desk.specs.Desk.{RoutesDesk, HoldingDesk, ListDesk, StationDesk, PairDesk, ReadDesk, WriteDesk};
+ghost use Rattle.desk.specs.Desk.{RoutesDesk, HoldingDesk, VerdictDesk, ListDesk, StationDesk, PairDesk, ReadDesk, WriteDesk};
 
 // The routes question: 1 in `joined` for a linked pair, else the number of separate routes in `count`.
 #[no_mangle]
@@ -44,6 +44,22 @@ pub extern "C" fn desk_holding(
     *w2 = weak.c;
     *w3 = weak.d;
     answer.number()
+}
+
+// The holding question for the verdict alone: 0 for HOLDS, 1 for FEW, 2 for WEAK.
+#[no_mangle]
+pub extern "C" fn desk_verdict(
+    n: usize,
+    table: &[u64],
+    k: usize,
+    set: &[u64],
+    verdict: &mut u64,
+) -> u64
+    ensures { λ r. ⌜ VerdictDesk n (now (table .entry)) k (now (set .entry)) r (now (verdict .exit)) ⌝ }
+{
+    let brief = holding::judged(n, table, k, set);
+    *verdict = brief.verdict();
+    brief.number()
 }
 
 // The list question: the number of groups in `groups`, and the groups in the list.

@@ -15,7 +15,9 @@ use Rattle.mesh.proofs.OnlyOne.{answer-one}
 use Rattle.card.proofs.Card.{first-one, refusal-one, number-above}
 use Rattle.holding.specs.declared.Answer.{Answer}
 use Rattle.holding.specs.declared.Answer.the-variants.{Holds, Few, Weak, Refused}
-use Rattle.holding.specs.Reply.{number, verdict, weak-set, Right, order, Replies}
+use Rattle.holding.specs.Reply.{number, verdict, weak-set, Right, order, Replies, brief-number, RightBriefly, Judges}
+use Rattle.holding.specs.declared.Brief.{Brief}
+use Rattle.holding.specs.declared.Brief.the-variants as brief
 
 -- the words of the reply are below 2 ^ 64
 abbrev pub Worded : Answer → Type 0
@@ -99,3 +101,32 @@ module _ (n : ℕ) (t : List ℕ) (k : ℕ) (s : List ℕ) (r r′ : Answer) (p 
       go (Refused x) Holds w w′ e v f = absurd (number-above x e)
       go (Refused x) Few w w′ e v f = absurd (number-above x e)
       go (Refused x) (Weak y) w w′ e v f = absurd (number-above x e)
+
+-- ---- the verdict alone has one reply too
+module _ (n : ℕ) (t : List ℕ) (k : ℕ) (s : List ℕ) where
+  right-one : (r r′ : Brief) → RightBriefly (linked t) n k (has s) r → RightBriefly (linked t) n k (has s) r′ → r ≡ r′
+  right-one brief.Holds brief.Holds p q = refl
+  right-one brief.Holds brief.Few p q = absurd (omega (arith, p .above))
+  right-one brief.Holds brief.Weak p (a, (x, w)) = absurd (w .parts (p .firm x (w .part) (w .few)))
+  right-one brief.Few brief.Holds p q = absurd (omega (arith, q .above))
+  right-one brief.Few brief.Few p q = refl
+  right-one brief.Few brief.Weak p (a, w) = absurd (omega arith)
+  right-one brief.Weak brief.Holds (a, (x, w)) q = absurd (w .parts (q .firm x (w .part) (w .few)))
+  right-one brief.Weak brief.Few (a, w) q = absurd (omega arith)
+  right-one brief.Weak brief.Weak p q = refl
+  right-one (brief.Refused x) r′ p q = absurd p
+  right-one brief.Holds (brief.Refused y) p q = absurd q
+  right-one brief.Few (brief.Refused y) p q = absurd q
+  right-one brief.Weak (brief.Refused y) p q = absurd q
+
+  pub judged-only-one : (r r′ : Brief) → Judges n t k s r → Judges n t k s r′ → r ≡ r′
+  judged-only-one r r′ p q = go r r′ p q (first-one (order n t k s) (brief-number r) (brief-number r′) (p .refused) (q .refused))
+    where
+      go : (r r′ : Brief) → Judges n t k s r → Judges n t k s r′ → brief-number r ≡ brief-number r′ → r ≡ r′
+      go brief.Holds r′ p q e = right-one brief.Holds r′ (p .right refl) (q .right (sym e))
+      go brief.Few r′ p q e = right-one brief.Few r′ (p .right refl) (q .right (sym e))
+      go brief.Weak r′ p q e = right-one brief.Weak r′ (p .right refl) (q .right (sym e))
+      go (brief.Refused x) (brief.Refused y) p q e = ap brief.Refused (refusal-one x y e)
+      go (brief.Refused x) brief.Holds p q e = absurd (number-above x e)
+      go (brief.Refused x) brief.Few p q e = absurd (number-above x e)
+      go (brief.Refused x) brief.Weak p q e = absurd (number-above x e)
