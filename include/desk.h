@@ -1,8 +1,8 @@
 /* The questions of the desk, for C and Rust callers. Link target/staticlib/libdesk.a (x86-64).
  *
- * Every function takes every input, replies, and ends. It returns the refusal's number from the card (docs/CARD.md), 0 where the question is
- * answered. The numbers lent for the reply are always written: on a refusal they are 0. A slice is a pointer, which is not null, and a count of
- * elements. What is lent for writing overlaps nothing else that is lent.
+ * Every function takes every input, replies, and ends. Each but desk_first_row, which has no refusal, returns the refusal's number from the card
+ * (docs/CARD.md), 0 where the question is answered. The numbers lent for the reply are always written: on a refusal they are 0. A slice is a
+ * pointer, which is not null, and a count of elements. What is lent for writing overlaps nothing else that is lent.
  *
  * A table is 4n words, four for each station: bit j mod 64 of word j / 64 of a row is set where the station is linked to station j.
  */
@@ -10,6 +10,11 @@
 #define DESK_H
 #include <stddef.h>
 #include <stdint.h>
+
+/* The order question: which of two rows of four words comes first, rows of a table or a list or sets of the caller's own. It returns 0 where x does,
+ * also where the rows are equal, and 1 where y does. The reply is the first *words words of that row: *words is 4, and 0 where either row hasn't four
+ * words, an empty part of x. */
+uint64_t desk_first_row(const uint64_t *x, size_t x_words, const uint64_t *y, size_t y_words, uint64_t *words);
 
 /* The routes question: the greatest number of chains between stations a and b that share no station but the two ends, which is the smallest number
  * of other stations whose loss parts them. For a linked pair *joined is 1 and *count is 0. Refusals in the order 2, 3, 4, 7. */
@@ -46,5 +51,11 @@ uint64_t desk_read(const uint8_t *bytes, size_t count, uint32_t *serials, size_t
  * buffer as it was. Refusals in the order 2, 3, 4, 12, 10, 14. */
 uint64_t desk_write(size_t n, const uint32_t *serials, size_t serial_count, const uint64_t *table, size_t table_words,
                     uint8_t *bytes, size_t count, uint64_t *length);
+
+/* The night list: the page that the program of that name prints for the survey, as bytes; *length is how many. The page of a refused survey is its
+ * line `refused N`. Bytes of the buffer past the page stay as they were. The buffer needs DESK_PAGE_BYTES bytes, which every page fits in: refusal 14
+ * where it has fewer, and then it stays as it was. */
+#define DESK_PAGE_BYTES 262144
+uint64_t desk_night_list(const uint8_t *bytes, size_t count, uint8_t *page, size_t page_bytes, uint64_t *length);
 
 #endif

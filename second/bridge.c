@@ -20,12 +20,14 @@ u64 desk_read(const u8 *bytes, u64 count, u32 *serials, u64 serial_count, u64 *t
               u64 *version, u64 *n, u64 *links);
 u64 desk_write(u64 n, const u32 *serials, u64 serial_count, const u64 *table, u64 table_words,
                u8 *bytes, u64 count, u64 *length);
+u64 desk_first_row(const u64 *x, u64 x_words, const u64 *y, u64 y_words, u64 *words);
+u64 desk_night_list(const u8 *bytes, u64 count, u8 *page, u64 page_bytes, u64 *length);
 
-enum { WORDS = 1 << 16, BYTES = 1 << 18 };
+enum { WORDS = 1 << 16, BYTES = 1 << 18, PAGE = 1 << 19 };
 
 static u64 table[WORDS], list[WORDS], set[WORDS], ask[8], out[8];
 static u32 serials[WORDS];
-static u8 bytes[BYTES], in_buffer[1 << 17], out_buffer[1 << 17];
+static u8 bytes[BYTES], page[PAGE], in_buffer[1 << 17], out_buffer[1 << 17];
 static u64 in_at, in_end, out_end;
 
 static void send(void) {
@@ -135,6 +137,29 @@ int main(void) {
             out[0] = desk_write(ask[1], serials, ask[2], table, ask[3], bytes, ask[4], out + 1);
             give(out, 16);
             give(bytes, ask[5]);
+            break;
+#endif
+#ifdef WITH_ORDER
+        case 8: /* words of the one row, of the other */
+            take(ask + 1, 16, 16);
+            take_words(set, ask[1]);
+            take_words(list, ask[2]);
+            out[0] = desk_first_row(set, ask[1], list, ask[2], out + 1);
+            give(out, 16);
+            break;
+#endif
+#ifdef WITH_NIGHT
+        case 9: /* bytes, bytes of the page lent, with the guard, what each of these is beforehand */
+            take(ask + 1, 32, 32);
+            take(bytes, ask[1], BYTES);
+            if (ask[3] > PAGE) _exit(4);
+            for (u64 i = 0; i < ask[3]; i++) page[i] = (u8)ask[4];
+            out[0] = desk_night_list(bytes, ask[1], page, ask[2], out + 1);
+            u64 end = out[1] < ask[3] ? out[1] : ask[3];
+            out[2] = 0;
+            for (u64 i = end; i < ask[3]; i++) out[2] += page[i] != (u8)ask[4];
+            give(out, 24);
+            give(page, end);
             break;
 #endif
         default:

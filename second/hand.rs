@@ -6,6 +6,7 @@ use crate::brute::{Brute, Verdict};
 use crate::card;
 use crate::flow::Net;
 use crate::mesh::{self, Mesh};
+use crate::page;
 use crate::pieces;
 use crate::survey;
 
@@ -25,6 +26,15 @@ pub struct Row {
     pub mesh: Mesh,
     pub asked: Asked,
 }
+
+/// The night list that document 01 prints.
+const PAGE_OF_FIVE: &str = "\
+RLM 1 stations 5 links 6
+1 1 101 102 103 104 105
+2 1 101 102 103
+2 2 103 104 105
+end 2
+";
 
 /// The five stations of the night list.
 fn five() -> Mesh {
@@ -102,8 +112,7 @@ fn agrees(row: &Row) -> bool {
 
 /// True if every row and every limit comes out as document 01 says.
 pub fn run() -> bool {
-    let serials: Vec<u32> = (101..=105).collect();
-    let file = survey::write(5, &serials, &five().table, 53).unwrap_or_default();
+    let file = survey::write(5, &[101, 102, 103, 104, 105], &five().table, 53).unwrap_or_default();
     let mut tests: Vec<(&str, bool)> = rows().iter().map(|row| (row.name, agrees(row))).collect();
     tests.extend([
         ("n 256 taken", card::table(256, &[0; 1024]) == 0),
@@ -116,6 +125,9 @@ pub fn run() -> bool {
             "the file of the five",
             file.len() == 53 && survey::read(&file, 5, 20).map(|survey| survey.mesh.table) == Ok(five().table),
         ),
+        ("the page of the five", page::page(&file) == PAGE_OF_FIVE.as_bytes()),
+        ("the page of no stations", page::page(&survey::file(1, 0, 0, &[], &[])) == b"RLM 1 stations 0 links 0\nend 0\n"),
+        ("the page of no bytes", page::page(&[]) == b"refused 8\n"),
     ]);
     let mut differences = 0;
     for (name, good) in &tests {

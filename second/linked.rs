@@ -2,74 +2,13 @@
 //! refusal number first. Lent buffers are given with a guard behind the lent part, so that a store past it shows.
 //! The numbers that the library must write are set to a pattern beforehand.
 
-const UNWRITTEN: u64 = 0xdead_beef_dead_beef;
+// the declarations of the C interface alone
+#[path = "../rust/desk.rs"]
+mod interface;
+#[allow(unused_imports)]
+use interface::c::*;
 
-extern "C" {
-    #[cfg(with_routes)]
-    fn desk_routes(n: usize, table: *const u64, table_words: usize, a: usize, b: usize, joined: *mut u64, count: *mut u64)
-        -> u64;
-    #[cfg(with_holding)]
-    fn desk_holding(
-        n: usize,
-        table: *const u64,
-        table_words: usize,
-        k: usize,
-        set: *const u64,
-        set_words: usize,
-        verdict: *mut u64,
-        w0: *mut u64,
-        w1: *mut u64,
-        w2: *mut u64,
-        w3: *mut u64,
-    ) -> u64;
-    #[cfg(with_holding)]
-    fn desk_verdict(
-        n: usize,
-        table: *const u64,
-        table_words: usize,
-        k: usize,
-        set: *const u64,
-        set_words: usize,
-        verdict: *mut u64,
-    ) -> u64;
-    #[cfg(with_list)]
-    fn desk_list(
-        n: usize,
-        table: *const u64,
-        table_words: usize,
-        k: usize,
-        list: *mut u64,
-        list_words: usize,
-        groups: *mut u64,
-    ) -> u64;
-    #[cfg(with_standings)]
-    fn desk_station_standing(n: usize, table: *const u64, table_words: usize, a: usize, standing: *mut u64) -> u64;
-    #[cfg(with_standings)]
-    fn desk_pair_standing(n: usize, table: *const u64, table_words: usize, a: usize, b: usize, standing: *mut u64) -> u64;
-    #[cfg(with_files)]
-    fn desk_read(
-        bytes: *const u8,
-        count: usize,
-        serials: *mut u32,
-        serial_count: usize,
-        table: *mut u64,
-        table_words: usize,
-        version: *mut u64,
-        n: *mut u64,
-        links: *mut u64,
-    ) -> u64;
-    #[cfg(with_files)]
-    fn desk_write(
-        n: usize,
-        serials: *const u32,
-        serial_count: usize,
-        table: *const u64,
-        table_words: usize,
-        bytes: *mut u8,
-        count: usize,
-        length: *mut u64,
-    ) -> u64;
-}
+const UNWRITTEN: u64 = 0xdead_beef_dead_beef;
 
 pub struct Desk {}
 
@@ -159,5 +98,26 @@ impl Desk {
             desk_write(n, serials.as_ptr(), serials.len(), table.as_ptr(), table.len(), bytes.as_mut_ptr(), bytes.len(), length)
         };
         out
+    }
+    #[cfg(with_order)]
+    pub fn first_row(&mut self, x: &[u64], y: &[u64]) -> [u64; 2] {
+        let mut out = [UNWRITTEN; 2];
+        let [first, words] = &mut out;
+        *first = unsafe { desk_first_row(x.as_ptr(), x.len(), y.as_ptr(), y.len(), words) };
+        out
+    }
+
+    #[cfg(with_night)]
+    /// Every byte of the buffer is `old` beforehand, to the end of its guard. Replies the refusal, the length and how
+    /// many bytes past the page changed; then the page.
+    pub fn night(&mut self, bytes: &[u8], lent: usize, guard: usize, old: u8) -> ([u64; 3], Vec<u8>) {
+        let mut out = [UNWRITTEN; 3];
+        let [refusal, length, changed] = &mut out;
+        let mut page = vec![old; lent + guard];
+        *refusal = unsafe { desk_night_list(bytes.as_ptr(), bytes.len(), page.as_mut_ptr(), lent, length) };
+        let end = (*length).min((lent + guard) as u64) as usize;
+        *changed = page[end..].iter().filter(|&&byte| byte != old).count() as u64;
+        page.truncate(end);
+        (out, page)
     }
 }

@@ -1,12 +1,18 @@
 //! The independent second program: written from document 01 alone, it answers by brute force and by ways of
 //! its own, and compares every reply and every lent buffer with the library's.
 //!
-//!     second [--long] [routes] [holding] [list] [standings] [files] [-- bridge command]
+//!     second [--long] [routes] [holding] [list] [standings] [files] [order] [night] [-- bridge command]
+//!     second page < FILE
+//!     second fuzz [WORDS..] -- PROGRAM
 //!
 //! With no question named, all those that were compiled in are run (`--cfg with_routes` and so on).
-//! It exits with 0 only if there is no difference.
+//! It exits with 0 only if there is no difference. `page` prints the page of a survey and `fuzz`
+//! compares a night list program with it (fuzz.rs); these two need no library.
 
-#![cfg_attr(not(all(with_routes, with_holding, with_list, with_standings, with_files)), allow(dead_code))]
+#![cfg_attr(
+    not(all(with_routes, with_holding, with_list, with_standings, with_files, with_order, with_night)),
+    allow(dead_code)
+)]
 
 #[cfg(with_files)]
 mod ask_files;
@@ -14,6 +20,10 @@ mod ask_files;
 mod ask_holding;
 #[cfg(with_list)]
 mod ask_list;
+#[cfg(with_night)]
+mod ask_night;
+#[cfg(with_order)]
+mod ask_order;
 #[cfg(with_routes)]
 mod ask_routes;
 #[cfg(with_standings)]
@@ -27,9 +37,12 @@ mod desk;
 #[cfg(piped)]
 #[path = "piped.rs"]
 mod desk;
+mod draft;
 mod flow;
+mod fuzz;
 mod hand;
 mod mesh;
+mod page;
 mod pieces;
 mod rand;
 mod survey;
@@ -49,6 +62,10 @@ fn questions() -> Vec<(&'static str, Run)> {
         ("standings", ask_standings::run as Run),
         #[cfg(with_files)]
         ("files", ask_files::run as Run),
+        #[cfg(with_order)]
+        ("order", ask_order::run as Run),
+        #[cfg(with_night)]
+        ("night", ask_night::run as Run),
     ]
 }
 
@@ -57,10 +74,18 @@ const LONG: usize = 20;
 
 fn main() {
     let mut words: Vec<String> = std::env::args().skip(1).collect();
-    let bridge = match words.iter().position(|word| word == "--") {
+    if words == ["page"] {
+        let printed = page::print();
+        std::process::exit(printed.is_err() as i32);
+    }
+    // what starts another program
+    let command = match words.iter().position(|word| word == "--") {
         Some(at) => words.split_off(at)[1..].to_vec(),
         None => Vec::new(),
     };
+    if words.first().is_some_and(|word| word == "fuzz") {
+        std::process::exit(fuzz::main(&words[1..], &command));
+    }
     let times = if words.iter().any(|word| word == "--long") { LONG } else { 1 };
     words.retain(|word| word != "--long");
     let known = questions();
@@ -72,7 +97,7 @@ fn main() {
     }
     let mut good = hand::run();
     if !known.is_empty() {
-        let mut desk = desk::Desk::open(&bridge);
+        let mut desk = desk::Desk::open(&command);
         for (name, run) in known {
             if words.is_empty() || words.iter().any(|word| word == name) {
                 let start = std::time::Instant::now();

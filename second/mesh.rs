@@ -127,6 +127,47 @@ fn clique_row(n: usize, rand: &mut Rand) -> Mesh {
     mesh
 }
 
+/// Cliques of `size` stations, each but the first made of `shared` stations of an earlier one and new ones, while there
+/// are new stations and no more than `most` links. At a level above `shared` and below `size` each clique is a group.
+pub fn clique_tree(n: usize, size: usize, shared: usize, most: usize, rand: &mut Rand) -> Mesh {
+    let mut mesh = Mesh::unlinked(n);
+    let mut cliques: Vec<Vec<usize>> = Vec::new();
+    let (mut used, mut links) = (0, 0);
+    loop {
+        let mut members: Vec<usize> = match cliques.len() {
+            0 => Vec::new(),
+            count => {
+                let old = &cliques[rand.below(count)];
+                places(shared, size, rand).iter().map(|&i| old[i]).collect()
+            }
+        };
+        let old = members.len();
+        links += (size * (size - 1) - old * old.saturating_sub(1)) / 2;
+        if used + size - old > n || links > most {
+            return mesh;
+        }
+        members.extend(used..used + size - old);
+        used += size - old;
+        mesh.join_all(&members);
+        cliques.push(members);
+    }
+}
+
+/// Stations 0 to `hubs` - 1 linked with all others, which are linked in pairs: at level `hubs` + 1 a group for each
+/// pair, which is as many as a level can have.
+pub fn pairs_over_hubs(n: usize, hubs: usize) -> Mesh {
+    let mut mesh = Mesh::unlinked(n);
+    for a in 0..n {
+        for b in 0..hubs.min(n) {
+            mesh.link(a, b);
+        }
+    }
+    for a in (hubs..n.saturating_sub(1)).step_by(2) {
+        mesh.link(a, a + 1);
+    }
+    mesh
+}
+
 /// Station i linked with the next `reach` around the ring.
 pub fn ring(n: usize, reach: usize) -> Mesh {
     let mut mesh = Mesh::unlinked(n);

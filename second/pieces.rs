@@ -112,8 +112,13 @@ fn loss_below(mesh: &Mesh, piece: &[usize], limit: usize, smallest: bool) -> Opt
     let mut limit = limit;
     let mut best = None;
     for i in 0..limit.min(piece.len()) {
+        let linked = |j: usize, l: usize| mesh.linked(piece[j], piece[l]);
+        // the stations that no loss of fewer than `limit` parts from i
+        let mut firm: Vec<bool> = (0..piece.len()).map(|j| i == j || linked(i, j)).collect();
         for j in 0..piece.len() {
-            if i == j || mesh.linked(piece[i], piece[j]) {
+            // with that many links to firm ones, one of those is left after any such loss
+            if firm[j] || (0..piece.len()).filter(|&l| firm[l] && linked(j, l)).count() >= limit {
+                firm[j] = true;
                 continue;
             }
             if let (count, Some(loss)) = net.routes(i, j, limit) {
@@ -123,6 +128,7 @@ fn loss_below(mesh: &Mesh, piece: &[usize], limit: usize, smallest: bool) -> Opt
                 }
                 limit = count;
             }
+            firm[j] = true;
         }
     }
     best

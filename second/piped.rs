@@ -174,4 +174,27 @@ impl Desk {
         self.get_bytes(bytes);
         out
     }
+    pub fn first_row(&mut self, x: &[u64], y: &[u64]) -> [u64; 2] {
+        self.question.clear();
+        self.say(&[8, x.len() as u64, y.len() as u64]);
+        self.say(x);
+        self.say(y);
+        self.send();
+        let mut out = [0; 2];
+        self.get(&mut out);
+        out
+    }
+
+    /// The bridge fills the buffer with `old` and looks at the bytes past the page, so that they need not be sent.
+    pub fn night(&mut self, bytes: &[u8], lent: usize, guard: usize, old: u8) -> ([u64; 3], Vec<u8>) {
+        self.question.clear();
+        self.say(&[9, bytes.len() as u64, lent as u64, (lent + guard) as u64, old as u64]);
+        self.say_bytes(bytes);
+        self.send();
+        let mut out = [0; 3];
+        self.get(&mut out);
+        let mut page = vec![0; out[1].min((lent + guard) as u64) as usize];
+        self.get_bytes(&mut page);
+        (out, page)
+    }
 }

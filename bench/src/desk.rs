@@ -2,85 +2,16 @@
 
 #![allow(dead_code)]
 
-#[cfg(with_routes)]
-extern "C" {
-    fn desk_routes(n: usize, table: *const u64, table_words: usize, a: usize, b: usize, joined: *mut u64, count: *mut u64)
-        -> u64;
-}
-
-#[cfg(with_holding)]
-extern "C" {
-    fn desk_holding(
-        n: usize,
-        table: *const u64,
-        table_words: usize,
-        k: usize,
-        set: *const u64,
-        set_words: usize,
-        verdict: *mut u64,
-        w0: *mut u64,
-        w1: *mut u64,
-        w2: *mut u64,
-        w3: *mut u64,
-    ) -> u64;
-}
-
-#[cfg(with_holding)]
-extern "C" {
-    fn desk_verdict(
-        n: usize,
-        table: *const u64,
-        table_words: usize,
-        k: usize,
-        set: *const u64,
-        set_words: usize,
-        verdict: *mut u64,
-    ) -> u64;
-}
+#[path = "../../rust/desk.rs"]
+mod interface;
+#[allow(unused_imports)]
+use interface::c::*;
 
 #[cfg(with_holding)]
 pub fn verdict(n: usize, table: &[u64], k: usize, set: &[u64]) -> [u64; 2] {
     let mut verdict = 0;
     let refusal = unsafe { desk_verdict(n, table.as_ptr(), table.len(), k, set.as_ptr(), set.len(), &mut verdict) };
     [refusal, verdict]
-}
-
-#[cfg(with_list)]
-extern "C" {
-    fn desk_list(
-        n: usize,
-        table: *const u64,
-        table_words: usize,
-        k: usize,
-        list: *mut u64,
-        list_words: usize,
-        groups: *mut u64,
-    ) -> u64;
-}
-
-#[cfg(with_files)]
-extern "C" {
-    fn desk_read(
-        bytes: *const u8,
-        count: usize,
-        serials: *mut u32,
-        serial_count: usize,
-        table: *mut u64,
-        table_words: usize,
-        version: *mut u64,
-        n: *mut u64,
-        links: *mut u64,
-    ) -> u64;
-    fn desk_write(
-        n: usize,
-        serials: *const u32,
-        serial_count: usize,
-        table: *const u64,
-        table_words: usize,
-        bytes: *mut u8,
-        count: usize,
-        length: *mut u64,
-    ) -> u64;
 }
 
 #[cfg(with_files)]

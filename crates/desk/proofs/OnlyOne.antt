@@ -2,9 +2,13 @@
 use mathlib.Core.List.{List, [], _∷_}
 use mathlib.Core.Path.{_≡_, refl, sym, ap, _∙_}
 use Prim.Native.Nat.{ℕ}
+use native.Mathlib.Decide.{ℕ-discrete}
+use denote.Ref.{RefT, now}
+use lib.ListN.{length}
 use Rattle.stations.specs.Sets.{Set, one-if}
 use Rattle.stations.specs.Words.{has}
 use Rattle.stations.proofs.Laws.{Wide, members-same}
+use Rattle.stations.proofs.OnlyOne.{order-only-one}
 use Rattle.routes.specs.declared.Answer as routed
 use Rattle.routes.specs.Reply as routes
 use Rattle.routes.proofs.OnlyOne.{routes-only-one}
@@ -20,7 +24,20 @@ use Rattle.standings.proofs.OnlyOne.{station-only-one, pair-only-one}
 use Rattle.reader.specs.Reply as reader
 use Rattle.writer.specs.Reply as writer
 use Rattle.survey.proofs.OnlyOne.{reader-only-one, writer-only-one}
-use Rattle.desk.specs.Desk.{RoutesDesk, HoldingDesk, VerdictDesk, ListDesk, StationDesk, PairDesk, ReadDesk, WriteDesk}
+use Rattle.page.specs.Reply as page
+use Rattle.page.proofs.OnlyOne.{night-list-only-one}
+use Rattle.desk.specs.Desk.{FirstRowDesk, RoutesDesk, HoldingDesk, VerdictDesk, ListDesk, StationDesk, PairDesk, ReadDesk, WriteDesk, PageDesk}
+
+pub first-row-desk-only-one : (x y : RefT (List ℕ)) (r w r′ w′ : ℕ) → FirstRowDesk x y r w → FirstRowDesk x y r′ w′ → (r ≡ r′) × (w ≡ w′)
+first-row-desk-only-one x y r w r′ w′ p q = (
+  go (ℕ-discrete r r′),
+  p .counted ∙ ap length (order-only-one x y (p .answer) (q .answer) (p .replies) (q .replies) .1) ∙ sym (q .counted),
+)
+  where
+    -- numbers that differ would be neither both 1 nor both 0
+    go : Dec (r ≡ r′) → r ≡ r′
+    go (yes e) = e
+    go (no d) = p .first (λ a b c. d (p .second a b c ∙ sym (q .second a b c))) ∙ sym (q .first (λ a b c. d (p .second a b c ∙ sym (q .second a b c))))
 
 pub routes-desk-only-one : (n : ℕ) (t : List ℕ) (a b r j c r′ j′ c′ : ℕ) → RoutesDesk n t a b r j c → RoutesDesk n t a b r′ j′ c′ → (r ≡ r′) × (j ≡ j′) × (c ≡ c′)
 routes-desk-only-one n t a b r j c r′ j′ c′ p q =
@@ -79,3 +96,8 @@ pub write-desk-only-one : (n : ℕ) (serials table bs b b′ : List ℕ) (r l r�
 write-desk-only-one n serials table bs b b′ r l r′ l′ p q =
     let (e, f) = writer-only-one n serials table bs b b′ (p .answer) (q .answer) (p .replies) (q .replies) in
     (p .number ∙ ap writer.number e ∙ sym (q .number), p .of-length ∙ ap writer.file-length e ∙ sym (q .of-length), f)
+
+pub page-desk-only-one : (bs p a b : List ℕ) (r l r′ l′ : ℕ) → PageDesk bs p a r l → PageDesk bs p b r′ l′ → (r ≡ r′) × (l ≡ l′) × (a ≡ b)
+page-desk-only-one bs p a b r l r′ l′ x y =
+    let (e, f) = night-list-only-one bs p a b (x .answer) (y .answer) (x .replies) (y .replies) in
+    (x .number ∙ ap page.number e ∙ sym (y .number), x .of-length ∙ ap page.page-length e ∙ sym (y .of-length), f)

@@ -1,9 +1,12 @@
 -- What each exported question says: the reply of the question itself, in the paper's numbers.
 use mathlib.Core.List.{List, [], _∷_}
 use mathlib.Core.Path.{_≡_}
-use Prim.Native.Nat.{ℕ}
-use Rattle.stations.specs.Sets.{one-if}
+use Prim.Native.Nat.{ℕ, zero, suc}
+use denote.Ref.{RefT, now, at-last}
+use lib.ListN.{length, take}
+use Rattle.stations.specs.Sets.{one-if, Before}
 use Rattle.stations.specs.Words.{has}
+use Rattle.stations.specs.Answers.{FirstRow}
 use Rattle.routes.specs.declared.Answer as routed
 use Rattle.routes.specs.Reply as routes
 use Rattle.holding.specs.declared.Answer as held
@@ -19,6 +22,26 @@ use Rattle.reader.specs.declared.ReadAnswer.{ReadAnswer}
 use Rattle.reader.specs.Reply as reader
 use Rattle.writer.specs.declared.WriteAnswer.{WriteAnswer}
 use Rattle.writer.specs.Reply as writer
+use Rattle.page.specs.declared.PageAnswer.{PageAnswer}
+use Rattle.page.specs.Reply as page
+
+-- The order question. Its reply is a part of one of the caller's own rows, and two numbers name it: r the row, 0 for the first and 1 for the second
+-- (row-named), and words how many words it has, from where the row begins (beginning).
+abbrev pub row-named : ℕ → RefT (List ℕ) → RefT (List ℕ) → RefT (List ℕ)
+row-named zero x y = x
+row-named (suc r) x y = y
+
+abbrev pub beginning : ℕ → RefT (List ℕ) → RefT (List ℕ)
+beginning words x = at-last x (take words (now x))
+
+pub record FirstRowDesk (x y : RefT (List ℕ)) (r words : ℕ) : Type 0 where
+  pub answer : RefT (List ℕ)
+  pub replies : FirstRow x y answer
+  pub part : answer ≡ beginning words (row-named r x y)
+  pub counted : words ≡ length (now answer)
+  -- r is 1 where both rows have four words and the second comes before the first, and 0 where not
+  pub second : length (now x) ≡ 4 → length (now y) ≡ 4 → Before (has (now y)) (has (now x)) → r ≡ 1
+  pub first : (length (now x) ≡ 4 → length (now y) ≡ 4 → Before (has (now y)) (has (now x)) → ⊥) → r ≡ 0
 
 -- the routes question
 pub record RoutesDesk (n : ℕ) (t : List ℕ) (a b r joined count : ℕ) : Type 0 where
@@ -77,3 +100,10 @@ pub record WriteDesk (n : ℕ) (serials table bs bs′ : List ℕ) (r length : �
   pub replies : writer.Writes n serials table bs bs′ answer
   pub number : r ≡ writer.number answer
   pub of-length : length ≡ writer.file-length answer
+
+-- the night list; p is the buffer before, p′ the buffer after
+pub record PageDesk (bs p p′ : List ℕ) (r length : ℕ) : Type 0 where
+  pub answer : PageAnswer
+  pub replies : page.Prints bs p p′ answer
+  pub number : r ≡ page.number answer
+  pub of-length : length ≡ page.page-length answer

@@ -1,7 +1,27 @@
-// The questions for C and Rust callers. A slice is a pointer and then a count of elements. Each function returns the refusal's number, 0 where the
-// question is answered; the numbers lent for the reply are always written.
+// The questions for C and Rust callers. A slice is a pointer and then a count of elements. Each function but desk_first_row, which has no refusal,
+// returns the refusal's number, 0 where the question is answered; the numbers lent for the reply are always written.
 ghost use mathlib.Core.Path.{_≡_};
-ghost use Rattle.desk.specs.Desk.{RoutesDesk, HoldingDesk, VerdictDesk, ListDesk, StationDesk, PairDesk, ReadDesk, WriteDesk};
+ghost use Rattle.desk.specs.Desk.{FirstRowDesk, RoutesDesk, HoldingDesk, VerdictDesk, ListDesk, StationDesk, PairDesk, ReadDesk, WriteDesk, PageDesk};
+use stations::StationSet;
+
+// The order question: 0 where the first row comes first, 1 where the second does. The reply is the first `words` words of that row: all four, or
+// none where one of the two rows hasn't four words.
+#[no_mangle]
+pub extern "C" fn desk_first_row(x: &[u64], y: &[u64], words: &mut u64) -> u64
+    ensures { λ r. ⌜ FirstRowDesk (x .entry) (y .entry) r (now (words .exit)) ⌝ }
+{
+    *words = 0;
+    if x.len() != 4 {
+        return 0;
+    }
+    if y.len() != 4 {
+        return 0;
+    }
+    *words = 4;
+    let mine = StationSet::of_row(x, 0);
+    let theirs = StationSet::of_row(y, 0);
+    if theirs.before(mine) { 1 } else { 0 }
+}
 
 // The routes question: 1 in `joined` for a linked pair, else the number of separate routes in `count`.
 #[no_mangle]
@@ -141,5 +161,15 @@ pub extern "C" fn desk_write(
 {
     let answer = writer::write(n, serials, table, bytes);
     *length = answer.file_length() as u64;
+    answer.number()
+}
+
+// The night list: the page of a survey, as bytes in the lent buffer, and their number in `length`.
+#[no_mangle]
+pub extern "C" fn desk_night_list(survey: &[u8], page: &mut [u8], length: &mut u64) -> u64
+    ensures { λ r. ⌜ PageDesk (now (survey .entry)) (now (page .entry)) (now (page .exit)) r (now (length .exit)) ⌝ }
+{
+    let answer = page::night_list(survey, page);
+    *length = answer.page_length() as u64;
     answer.number()
 }

@@ -14,7 +14,7 @@ use Rattle.stations.proofs.Counting.{size-sub, size-past}
 use Rattle.stations.proofs.Order.{before-not-self}
 use Rattle.mesh.specs.Mesh.{Links, Holds, R, Listed}
 use Rattle.mesh.specs.Table.{linked}
-use Rattle.mesh.proofs.Bound.{weight, rows-weight, heavy}
+use Rattle.mesh.proofs.Bound.{total, weight, rows-weight, heavy, total-inject}
 use Rattle.mesh.proofs.Pieces.{begin, pieces-same, found}
 use Rattle.mesh.proofs.Rows.{Found, same-row, rows}
 use Rattle.mesh.proofs.Past.{holds-to, holds-from}
@@ -37,6 +37,7 @@ module _ {t : List ℕ} {D : Set} {k : ℕ} {l : List ℕ} (a : Asked t D k l) w
 
   -- nothing of k stations or fewer holds
   pub nothing : size 256 D ≤ k → Listing t D k l l 0
+  unfolding total
   nothing few = record {
     listed = record {
       hold = λ i h. absurd (omega arith);
@@ -46,6 +47,7 @@ module _ {t : List ℕ} {D : Set} {k : ℕ} {l : List ℕ} (a : Asked t D k l) w
       order = λ i j h m. absurd (omega arith);
     };
     most = omega arith;
+    weigh = omega arith;
     clear = λ p h m. absurd (omega (arith, rows-weight (size 256 D) k));
     past = λ p h. refl;
     long = refl;
@@ -99,6 +101,14 @@ module _ {t : List ℕ} {D : Set} {k : ℕ} {l : List ℕ} (a : Asked t D k l) w
             came : (i : ℕ) → i < g → (j : ℕ) × (j < g) × (set-at l4 i ≡ set-at l2 j)
             came i h = let x = so .from i h in (x .0, x .1, x .2 ∙ row-same (x .0) (x .1))
 
+            differ : Different g (set-at l4)
+            differ i j h m c = by (decLt i j) (decLt j i)
+              where
+                by : Dec (i < j) → Dec (j < i) → i ≡ j
+                by (yes w) _ = absurd (before-not-self (set-at l4 j) (subst (λ (z : Set). Before z (set-at l4 j)) c (so .order i j w m)))
+                by (no _) (yes w) = absurd (before-not-self (set-at l4 j) (subst (λ (z : Set). Before (set-at l4 j) z) c (so .order j i w h)))
+                by (no v) (no w) = omega arith
+
             listed : ListedIn (linked t) 256 k D g (set-at l4)
             listed = record {
               hold = λ i h. let x = came i h in subst (λ (z : Set). Holds (linked t) 256 k z) (sym (x .2)) (s .firm (x .0) (x .1));
@@ -118,20 +128,19 @@ module _ {t : List ℕ} {D : Set} {k : ℕ} {l : List ℕ} (a : Asked t D k l) w
                 share i j h m d = go (came i h) (came j m)
                   where
                     go : (x : (r : ℕ) × (r < g) × (set-at l4 i ≡ set-at l2 r)) (y : (r : ℕ) × (r < g) × (set-at l4 j ≡ set-at l2 r)) → size 256 (set-at l4 i cut set-at l4 j) < k
-                    go (u, p, e) (v, q, f) = rw (e, f) (s .pieces .share u v p q (λ c. d (differ (e ∙ ap (set-at l2) c ∙ sym f))))
-                      where
-                        differ : set-at l4 i ≡ set-at l4 j → i ≡ j
-                        differ c = by (decLt i j) (decLt j i)
-                          where
-                            by : Dec (i < j) → Dec (j < i) → i ≡ j
-                            by (yes w) _ = absurd (before-not-self (set-at l4 j) (subst (λ (z : Set). Before z (set-at l4 j)) c (so .order i j w m)))
-                            by (no _) (yes w) = absurd (before-not-self (set-at l4 j) (subst (λ (z : Set). Before (set-at l4 j) z) c (so .order j i w h)))
-                            by (no v) (no w) = omega arith
+                    go (u, p, e) (v, q, f) = rw (e, f) (s .pieces .share u v p q (λ c. d (differ i j h m (e ∙ ap (set-at l2) c ∙ sym f))))
+
+            -- different rows came from different rows, so they weigh no more together
+            lighter : total g (λ i. weight k (size 256 (set-at l4 i))) ≤ total g (λ i. weight k (size 256 (set-at l2 i)))
+            lighter = total-inject g g (λ i. weight k (size 256 (set-at l4 i))) (λ i. weight k (size 256 (set-at l2 i))) (λ i h. came i h .0)
+                (λ i h. (came i h .1, ap (λ (z : Set). weight k (size 256 z)) (came i h .2)))
+                (λ i j h m c. differ i j h m (came i h .2 ∙ ap (set-at l2) c ∙ sym (came j m .2)))
 
             pub ended : Listing t D k l l4 g
             ended = record {
               listed = listed;
               most = omega (arith, rows-few s, e);
+              weigh = omega (arith, lighter, s .pieces .light, e);
               clear = λ p h m. so .kept .past p h ∙ cl .zero p h (omega (arith, e));
               past = λ p h. so .kept .past p (omega (arith, e, rows-few s)) ∙ cl .kept .past p (omega (arith, e)) ∙ kept .past p (omega (arith, e)) ∙ st .kept .past p (omega (arith, e, some));
               long = so .kept .long ∙ cl .kept .long ∙ kept .long ∙ st .kept .long;

@@ -5,3 +5,4 @@ pub mod Parting
 pub mod Exchange
 pub mod Turning
 pub mod Ending
+pub mod AllStations

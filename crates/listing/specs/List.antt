@@ -10,6 +10,7 @@ use Rattle.stations.specs.Sets.{Set, _part-of_, _cut_, size, Before}
 use Rattle.stations.specs.Words.{has, row}
 use Rattle.mesh.specs.Mesh.{Links, Mesh, Holds, R}
 use Rattle.mesh.specs.Table.{linked, Fits}
+use Rattle.mesh.proofs.Bound.{total, weight}
 
 abbrev pub set-at : List ℕ → ℕ → Set
 set-at l i = has (row l i)
@@ -34,6 +35,8 @@ pub record Asked (t : List ℕ) (D : Set) (k : ℕ) (l : List ℕ) : Type 0 wher
 pub record Listing (t : List ℕ) (D : Set) (k : ℕ) (l l' : List ℕ) (g : ℕ) : Type 0 where
   pub listed : ListedIn (linked t) 256 k D g (set-at l')
   pub most : g ≤ R (size 256 D) k
+  -- the rows together weigh at most R, a row of m stations weighing (m + 1 - k) / 2
+  pub weigh : total g (λ i. weight k (size 256 (set-at l' i))) ≤ R (size 256 D) k
   pub clear : (p : ℕ) → g * 4 ≤ p → p < R (size 256 D) k * 4 → getD l' p 0 ≡ 0
   pub past : (p : ℕ) → R (size 256 D) k * 4 ≤ p → getD l' p 0 ≡ getD l p 0
   pub long : length l' ≡ length l

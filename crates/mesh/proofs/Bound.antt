@@ -1,15 +1,15 @@
 -- Weights. A piece of m stations weighs (m + 1 - k) / 2: 0 at k stations or fewer, at least 1 above. With a loss of c < k stations, islands of
 -- a stations make pieces of a + c, and (a + c + 1 - k) / 2 summed over the islands is at most the weight of the whole, since each island beyond
 -- the first gives up k - c stations of its own. So a division adds no weight (bound), rows of more than k stations are never more than R, and
--- the stations above k fall (falls).
+-- the stations above k fall (falls). A family that is part of another weighs no more (total-inject).
 use mathlib.Core.Path.{_≡_, refl, sym, _∙_, ap}
 use mathlib.Core.Logic.{_⊎_, inl, inr}
 use mathlib.Core.Bool.{Bool, true, false, cond, false≢true}
 use Prim.Native.Nat.{ℕ, zero, suc, _+_, _-_, _/_, _≤_, _<_}
 use native.Mathlib.Omega.{arith}
 use native.Mathlib.Decide.{ℕ-discrete}
-use lib.Dec.{leb}
-use borrow.Author.Tests.{leb-true, leb-false}
+use lib.Dec.{leb, eqb}
+use borrow.Author.Tests.{leb-true, leb-false, eq-eqb, ne-eqb}
 use Rattle.stations.specs.Sets.{Set, _is-in_, _not-in_, _part-of_, none, _without_, _cut_, _joined_, size}
 use Rattle.mesh.specs.Mesh.{Links, R}
 use Rattle.mesh.specs.Dividing.{Islands}
@@ -38,6 +38,48 @@ pub total-same : (t : ℕ) (f g : ℕ → ℕ) → ((i : ℕ) → i < t → f i 
 unfolding total
 total-same zero f g h = refl
 total-same (suc t) f g h = omega (arith, h t (omega arith), total-same t f g (λ i l. h i (omega arith)))
+
+-- the sum with nothing at r
+total-without : (c : ℕ) (h : ℕ → ℕ) (r : ℕ) → r < c → total c h ≡ h r + total c (λ i. cond (eqb i r) 0 (h i))
+unfolding total
+total-without zero h r l = absurd (omega arith)
+total-without (suc c) h r l = go (ℕ-discrete c r) (total-without c h r)
+  where
+    other : (i : ℕ) → ¬ (i ≡ r) → cond (eqb i r) 0 (h i) ≡ h i
+    other i d = rw (ne-eqb i r d)
+
+    here : c ≡ r → cond (eqb c r) 0 (h c) ≡ 0
+    here e = rw (eq-eqb c r e)
+
+    go : Dec (c ≡ r) → (r < c → total c h ≡ h r + total c (λ i. cond (eqb i r) 0 (h i)))
+        → h c + total c h ≡ h r + (cond (eqb c r) 0 (h c) + total c (λ i. cond (eqb i r) 0 (h i)))
+    go (yes e) ih = omega (arith, here e, ap h e, total-same c (λ i. cond (eqb i r) 0 (h i)) h (λ i m. other i (λ q. omega arith)))
+    go (no d) ih = omega (arith, other c d, ih (omega arith))
+
+-- Where the numbers f 0, .., f (g - 1) stand at different places of h, below c, they add up to no more than h 0, .., h (c - 1): the last of them
+-- is taken out of h, and the others stand elsewhere.
+pub total-inject : (g c : ℕ) (f h : ℕ → ℕ) (to : (i : ℕ) → i < g → ℕ) → ((i : ℕ) (l : i < g) → (to i l < c) × (f i ≡ h (to i l)))
+    → ((i j : ℕ) (l : i < g) (m : j < g) → to i l ≡ to j m → i ≡ j) → total g f ≤ total c h
+unfolding total
+total-inject zero c f h to is apart = omega arith
+total-inject (suc g) c f h to is apart = omega (
+  arith,
+  is g last .1,
+  total-without c h r (is g last .0),
+  total-inject g c f (λ i. cond (eqb i r) 0 (h i)) (λ i l. to i (up i l)) (λ i l. (is i (up i l) .0, is i (up i l) .1 ∙ other i l)) (λ i j l m. apart i j (up i l) (up j m)),
+)
+  where
+    up : (i : ℕ) → i < g → i < suc g
+    up i l = omega arith
+
+    last : g < suc g
+    last = omega arith
+
+    r : ℕ
+    r = to g last
+
+    other : (i : ℕ) (l : i < g) → h (to i (up i l)) ≡ cond (eqb (to i (up i l)) r) 0 (h (to i (up i l)))
+    other i l = rw (ne-eqb (to i (up i l)) r (λ q. omega (arith, apart i g (up i l) last q)))
 
 -- the arithmetic: pieces of a i + c stations, c below k
 weights : (k c t : ℕ) (a : ℕ → ℕ) → c < k → total t (λ i. weight k (a i + c)) ≤ weight k (total t a + c)

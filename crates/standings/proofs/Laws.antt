@@ -3,57 +3,44 @@
 use mathlib.Core.Bool.{Bool, true, false}
 use mathlib.Core.List.{List, [], _∷_, _++_}
 use mathlib.Core.Logic.{_⊎_, inl, inr}
-use mathlib.Core.Path.{_≡_, refl, sym, _∙_, ap, subst, fun-ext}
+use mathlib.Core.Path.{_≡_, refl, sym, _∙_, ap, subst}
 use Prim.Native.Nat.{ℕ, _+_, _*_, _<_, _≤_}
 use native.Mathlib.Decide.{decLe, decLt}
 use native.Mathlib.Omega.{arith}
 use lib.ListN.{length}
-use borrow.Author.Tests.{ltb-true}
-use Rattle.stations.specs.Sets.{Set, _is-in_, stations, size}
+use Rattle.stations.specs.Sets.{Set, _is-in_, stations}
 use Rattle.stations.specs.Words.{members}
 use Rattle.stations.specs.declared.StationSet.{StationSet}
-use Rattle.stations.proofs.Counting.{size-past, size-stations}
-use Rattle.mesh.specs.Mesh.{Links, Mesh, Group, Listed, R}
+use Rattle.mesh.specs.Mesh.{Links, Mesh, Group, Listed}
 use Rattle.mesh.specs.Standing.{Standing, PairStanding}
 use Rattle.mesh.specs.Table.{linked, Table}
 use Rattle.mesh.proofs.Pruning.{level-down}
 use Rattle.mesh.proofs.Covered.{in-group}
-use Rattle.mesh.proofs.Bound.{rows-weight}
 use Rattle.card.specs.declared.Refusal.{Refusal}
 use Rattle.card.specs.Card.{Test, FirstFailing, earlier, table-order, Says, STATION, PAIR}
 use Rattle.card.proofs.Card.{Numbered, Passes, first-then, table-numbered, table-passed, number-above, rows-pass}
 use Rattle.card.proofs.TableTest.{table-mesh}
 use Rattle.listing.specs.List as listing
 use Rattle.listing.specs.List.{set-at}
-use Rattle.listing.proofs.Ending.{listed-groups}
+use Rattle.listing.proofs.AllStations as all
 use Rattle.standings.specs.declared.Answer.the-variants.{Stands, Refused}
 use Rattle.standings.specs.Reply.{ROWS-AT-ALL, Replies}
 use Rattle.standings.specs.Steps.{Named, InGroup, Asked}
 
 -- ---- one level: the list of all stations in 512 words
 module _ (n : ℕ) (t : List ℕ) (a k : ℕ) (A : Asked n t a k) (l : List ℕ) (room : length l ≡ 512) (set : StationSet) (law : (x : ℕ) → members set x ≡ stations n x) where
-  many : size 256 (members set) ≡ n
-  many = ap (size 256) (fun-ext law) ∙ size-past n 256 (stations n) (λ x. ltb-true x n) (A .table .few) ∙ size-stations n
-
-  few-rows : R (size 256 (members set)) k * 4 ≤ 512
-  few-rows = omega (arith, rows-weight (size 256 (members set)) k, many, A .above, A .table .few)
-
   pub asked : listing.Asked t (members set) k l
-  asked = record {
-    fits = λ x h. omega (arith, ltb-true x n (sym (law x) ∙ h), A .table .long);
-    mesh = table-mesh (A .table);
-    room = omega (arith, few-rows);
-  }
+  asked = all.asked n t k (A .table) (A .above) l room set law
 
   module _ (l′ : List ℕ) (g : ℕ) (f : listing.Listing t (members set) k l l′ g) where
     pub rows-room : g * 4 ≤ length l′
-    rows-room = omega (arith, f .most, f .long, few-rows)
+    rows-room = all.rows-room n t k (A .table) (A .above) l room set law l′ g f
 
     pub told : (r : Bool) → Says (Named l′ g a) r → Says (InGroup t n k a) r
     told r s = record { yes-so = λ e. one (s .yes-so e); not-so = λ e h. s .not-so e (back h) }
       where
         L : Listed (linked t) n k g (set-at l′)
-        L = listed-groups (linked t) n k g (set-at l′) (A .table .few) (subst (λ (D : Set). listing.ListedIn (linked t) 256 k D g (set-at l′)) (fun-ext law) (f .listed))
+        L = all.listed n t k (A .table) (A .above) l room set law l′ g f
 
         one : Named l′ g a → InGroup t n k a
         one (i, h, e) = (set-at l′ i, L .groups .group i h, e)

@@ -16,7 +16,7 @@ use Rattle.writer.specs.Reply.{Writes}
 use Rattle.survey.proofs.OneSurvey.{same-version, same-stations, same-records, same-serials, same-table, same-bytes}
 
 -- two lists with the same front and the same rest are the same
-rejoined : (n n′ : ℕ) (x y z : List ℕ) → n ≡ n′ → take n x ≡ take n′ y → drop n x ≡ drop n z → drop n′ y ≡ drop n′ z → x ≡ y
+pub rejoined : (n n′ : ℕ) (x y z : List ℕ) → n ≡ n′ → take n x ≡ take n′ y → drop n x ≡ drop n z → drop n′ y ≡ drop n′ z → x ≡ y
 rejoined n n′ x y z e p q r =
     sym (take-append-drop n x)
     ∙ ap₂ (λ (u w : List ℕ). u ++ w) (p ∙ ap (λ (k : ℕ). take k y) (sym e)) (q ∙ ap (λ (k : ℕ). drop k z) e ∙ sym r ∙ ap (λ (k : ℕ). drop k y) (sym e))

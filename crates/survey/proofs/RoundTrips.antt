@@ -64,7 +64,7 @@ writer-takes {v} {n} {m} {s} {t} {bs} room Y l h = passes-none (writer-order n s
     fits p = omega (arith, c, Y .frame .whole)
 
 -- the reader's
-reader-takes : {v n m : ℕ} {s t bs : List ℕ} (serials words : ℕ) → Survey v n m s t bs → m ≤ 8192 → n ≤ serials → n * 4 ≤ words → FirstFailing (reader-order bs serials words) 0
+pub reader-takes : {v n m : ℕ} {s t bs : List ℕ} (serials words : ℕ) → Survey v n m s t bs → m ≤ 8192 → n ≤ serials → n * 4 ≤ words → FirstFailing (reader-order bs serials words) 0
 reader-takes {v} {n} {m} {s} {t} {bs} serials words Y l p q =
     passes-none (reader-order bs serials words) (mark, (one, (count, (whole, (room, (serials-faultless (Z .serials-right), (pairs-faultless (Z .pairs-right), tt)))))))
   where

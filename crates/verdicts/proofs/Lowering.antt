@@ -1,4 +1,4 @@
--- Each loss found lowers the level, until no smaller one is found.
+-- Each loss found lowers the level, until no smaller one is found or the level is 0.
 use mathlib.Core.List.{List}
 use mathlib.Core.Path.{_≡_, refl, sym, subst}
 use Prim.Native.Nat.{ℕ, _+_, _≤_}
@@ -33,6 +33,10 @@ lower-turn t p k l r h u v s l′ w e = record {
 pub lower-end : (t : List ℕ) (p : StationSet) (k l : ℕ) (r : Settled) → Lower t p k l r → WeakOf t p l Firm → SmallestOf t p k r
 lower-end t p k l Firm h w = subst (λ (j : ℕ). Safe (linked t) 256 every j (members p)) (h .best) w
 lower-end t p k l (Pair u v s) h w = (h .best .0, subst (λ (j : ℕ). Safe (linked t) 256 every j (members p)) (sym (h .best .1)) w)
+
+-- at level 0 there is no loss to look for
+pub lower-zero : (t : List ℕ) (p : StationSet) (k l : ℕ) (r : Settled) → Lower t p k l r → l ≤ 0 → SmallestOf t p k r
+lower-zero t p k l r h z = lower-end t p k l r h (λ S x. absurd (omega (arith, x .few)))
 
 pub smallest-least : (t : List ℕ) (p : StationSet) (k u v : ℕ) (s : StationSet) → Piece t p → SmallestOf t p k (Pair u v s) → SmallestWeak t p s
 smallest-least t p k u v s h w = record { piece = h; small = record { weak = weak-at (size 256 (members s) + 1) (omega arith) (pair-loss (w .0)); count = refl }; safe = w .1 }

@@ -22,14 +22,14 @@ pub enum Judged {
     Parted(StationSet),
 }
 
-// A weak pair whose loss is as small as any: each loss found lowers the level asked for.
+// A weak pair whose loss is as small as any: each loss found lowers the level asked for, and no loss has fewer than 0 stations.
 fn smallest(table: &[u64], p: StationSet, k: usize) -> Settled
     requires { ⌜ Piece (now table) p ⌝ }
     ensures { λ r. ⌜ SmallestOf (now (table .entry)) p k r ⌝ }
 {
     let mut best = Settled::Firm;
     let mut level = k;
-    loop {
+    while 0 < level {
         let r = pairs::weak(table, p, level);
         match r {
             Settled::Pair(u, v, s) => {
@@ -41,6 +41,7 @@ fn smallest(table: &[u64], p: StationSet, k: usize) -> Settled
             }
         }
     }
+    best
 }
 
 // A smallest loss that has the taken stations and j, if there is one, and else the witness, which has the taken ones.

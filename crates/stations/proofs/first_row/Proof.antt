@@ -1,16 +1,17 @@
 -- `stations::first_row` meets its contract.
 use borrow.Author.Needs.{needs}
 use mathlib.Core.Bool.{Bool, true, false, xor}
-use mathlib.Core.List.{List, []}
+use mathlib.Core.List.{List}
 use mathlib.Core.Path.{_≡_, refl, sym, ap, ap₂, _∙_, subst}
 use Prim.Native.Nat.{ℕ}
 use lib.ListN.{length}
-use denote.Ref.{RefT, now, ptr}
-use Rattle.stations.specs.Sets.{Set, Before}
+use denote.Ref.{now}
+use Rattle.stations.specs.Sets.{Set}
 use Rattle.stations.specs.Words.{has, words, members}
-use Rattle.stations.specs.Answers.{Least, FirstOf, FirstRow}
+use Rattle.stations.specs.Answers.{Least, FirstOf}
 use Rattle.stations.proofs.Laws.{before-mine, before-theirs, before-differs, row-whole, xor-eq}
 use Rattle.stations.proofs.Order.{before-not-after}
+use Rattle.stations.proofs.Replies.{short-row, row-first, row-second}
 use Rattle.stations.proofs.first_row.Statement.{statement}
 use Rattle.stations.proofs.first_row.Tie as tie
 
@@ -40,16 +41,6 @@ has-requires c κs = search needs
 
 enum-told : tie.Need-enum-told
 enum-told c = search needs
-
--- one of the rows has not four words
-short-row : (x y r : RefT (List ℕ)) → (length (now x) ≡ 4 → length (now y) ≡ 4 → ⊥) → now r ≡ [] → ptr r ≡ ptr x → FirstRow x y r
-short-row x y r h e f = record { short = λ _. (e, f); second = λ p q _. absurd (h p q); first = λ p q _. absurd (h p q) }
-
-row-first : (x y : RefT (List ℕ)) → length (now x) ≡ 4 → length (now y) ≡ 4 → (Before (has (now y)) (has (now x)) → ⊥) → FirstRow x y x
-row-first x y p q h = record { short = λ n. absurd (n p q); second = λ _ _ b. absurd (h b); first = λ _ _ _. refl }
-
-row-second : (x y : RefT (List ℕ)) → length (now x) ≡ 4 → length (now y) ≡ 4 → Before (has (now y)) (has (now x)) → FirstRow x y y
-row-second x y p q b = record { short = λ n. absurd (n p q); second = λ _ _ _. refl; first = λ _ _ h. absurd (h b) }
 
 -- what is known once the two rows are read and compared
 module _ (c : tie.After-first) where

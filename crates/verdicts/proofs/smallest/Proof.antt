@@ -4,7 +4,7 @@ use native.Mathlib.Omega.{arith}
 use borrow.Author.Needs.{needs}
 use Rattle.pairs.specs.Piece.{WeakOf}
 use Rattle.pairs.specs.declared.Settled.{Settled}
-use Rattle.verdicts.proofs.Lowering.{Lower, lower-turn, lower-end}
+use Rattle.verdicts.proofs.Lowering.{Lower, lower-turn, lower-end, lower-zero}
 use Rattle.verdicts.proofs.smallest.Statement.{statement}
 use Rattle.verdicts.proofs.smallest.Tie as tie
 
@@ -16,13 +16,13 @@ abbrev μ-loop : tie.MeasureT-loop
 
 -- what the search says at this level
 abbrev told : tie.After-weak Inv-loop μ-loop → Settled → Type 0
-told c = WeakOf (c .before .before .before .args .table .now) (c .before .before .before .args .p) (c .before .loop .level)
+told c = let l = c .before .before in let s = l .before .before in WeakOf (s .args .table .now) (s .args .p) (l .loop .level)
 
 loop-holds : tie.Need-loop-holds Inv-loop μ-loop
 loop-holds c = record { most = omega arith; best = refl }
 
 weak-requires : tie.Need-weak-requires Inv-loop μ-loop
-weak-requires c κs = c .before .before .pre
+weak-requires c κs = c .before .before .before .pre
 
 enum-known-r : tie.Need-enum-known-r Inv-loop μ-loop
 enum-known-r c = search needs
@@ -39,8 +39,9 @@ loop-less c =
 loop-again : tie.Need-loop-again Inv-loop μ-loop
 loop-again c =
     let m = c .before .before .before .before in
-    let s = m .before .before .before in
-    lower-turn (s .args .table .now) (s .args .p) (s .args .k) (m .before .loop .level) (m .before .loop .best) (m .before .loop .inv) _ _ (c .before .before .r .given .0 .1 .1 .0) _
+    let l = m .before .before in
+    let s = l .before .before in
+    lower-turn (s .args .table .now) (s .args .p) (s .args .k) (l .loop .level) (l .loop .best) (l .loop .inv) _ _ (c .before .before .r .given .0 .1 .1 .0) _
     (subst (told m) (c .before .before .r .given .1) (m .weak .ensures)) (c .size .ensures)
 
 enum-told : tie.Need-enum-told Inv-loop μ-loop
@@ -49,8 +50,15 @@ enum-told c = search needs
 returns : tie.Need-returns Inv-loop μ-loop
 returns c =
     let m = c .before .before in
-    let s = m .before .before .before in
-    lower-end (s .args .table .now) (s .args .p) (s .args .k) (m .before .loop .level) (m .before .loop .best) (m .before .loop .inv) (subst (told m) (c .enum-told .given .1) (m .weak .ensures))
+    let l = m .before .before in
+    let s = l .before .before in
+    lower-end (s .args .table .now) (s .args .p) (s .args .k) (l .loop .level) (l .loop .best) (l .loop .inv) (subst (told m) (c .enum-told .given .1) (m .weak .ensures))
+
+returns-2 : tie.Need-returns-2 Inv-loop μ-loop
+returns-2 c =
+    let l = c .before in
+    let s = l .before .before in
+    lower-zero (s .args .table .now) (s .args .p) (s .args .k) (l .loop .level) (l .loop .best) (l .loop .inv) (c .loop-test .left)
 
 pub smallest-spec : {M : Type 1} → statement M
 smallest-spec =
@@ -65,4 +73,5 @@ smallest-spec =
     loop-less
     loop-again
     enum-told
-    returns)
+    returns
+    returns-2)

@@ -1,0 +1,4 @@
+-- The laws of `lines`.
+pub mod Adding
+pub mod Decimal
+pub mod Serials
