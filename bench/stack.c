@@ -3,7 +3,8 @@
    input and prints the most that any question touched, less what an empty call touches, its return address kept.
    To add a question: a case in `call`, a line in `main`. */
 
-#include <stdint.h>
+#include "../include/desk.h"
+
 #include <stdio.h>
 #include <string.h>
 #include <ucontext.h>
@@ -11,16 +12,12 @@
 #define STACK 65536
 #define PATTERN 0xa5
 
-uint64_t desk_routes(size_t n, const uint64_t *table, size_t table_words, size_t a, size_t b, uint64_t *joined, uint64_t *count);
-uint64_t desk_holding(size_t n, const uint64_t *table, size_t table_words, size_t k, const uint64_t *set, size_t set_words,
-                      uint64_t *verdict, uint64_t *w0, uint64_t *w1, uint64_t *w2, uint64_t *w3);
-uint64_t desk_list(size_t n, const uint64_t *table, size_t table_words, size_t k, uint64_t *list, size_t list_words, uint64_t *groups);
-uint64_t desk_station_standing(size_t n, const uint64_t *table, size_t table_words, size_t a, uint64_t *standing);
-
-enum { EMPTY, ROUTES, HOLDING, LIST, STANDING };
+enum { EMPTY, ROUTES, HOLDING, LIST, STANDING, WRITE, READ, NIGHT };
 
 static unsigned char stack[STACK] __attribute__((aligned(64)));
-static uint64_t table[1024], list[1024], set[4], out[8];
+static uint64_t table[1024], list[1024], set[4], out[8], length;
+static uint32_t serials[256];
+static uint8_t file[33801], page[DESK_PAGE_BYTES];
 static size_t n, a, b, k;
 static int question;
 static ucontext_t caller, called;
@@ -44,6 +41,13 @@ static void call(void) {
 #endif
 #ifdef WITH_STANDINGS
     case STANDING: out[0] = desk_station_standing(n, table, 4 * n, a, out + 1); break;
+#endif
+#ifdef WITH_FILES
+    case WRITE: out[0] = desk_write(n, serials, n, table, 4 * n, file, sizeof file, &length); break;
+    case READ: out[0] = desk_read(file, length, serials, 256, table, 1024, out + 1, out + 2, out + 3); break;
+#endif
+#ifdef WITH_NIGHT
+    case NIGHT: out[0] = desk_night_list(file, length, page, sizeof page, out + 1); break;
 #endif
     }
 }
@@ -70,7 +74,7 @@ static void see(int asked, long *most) {
 }
 
 int main(void) {
-    long meshes = 0, asked = 0, routes = 0, holding = 0, lists = 0, standing = 0;
+    long meshes = 0, asked = 0, routes = 0, holding = 0, lists = 0, standing = 0, writing = 0, reading = 0, night = 0;
     int stations, links, pairs;
     char name[200];
     long base = touched(EMPTY) - (long)sizeof(void *);
@@ -106,12 +110,25 @@ int main(void) {
         see(STANDING, &standing);
         asked++;
 #endif
+#ifdef WITH_FILES
+        for (size_t i = 0; i < n; i++) serials[i] = (uint32_t)(1000 + i);
+        see(WRITE, &writing);
+        see(READ, &reading);
+        asked += 2;
+#ifdef WITH_NIGHT
+        see(NIGHT, &night); /* of the file that was just written */
+        asked++;
+#endif
+#endif
     }
     printf("| Question | Bytes of stack below the call, at most |\n|---|---|\n");
     if (routes) printf("| routes | %ld |\n", routes - base);
     if (holding) printf("| holding, levels 1 to 16 | %ld |\n", holding - base);
     if (lists) printf("| list, levels 1 to 16 | %ld |\n", lists - base);
     if (standing) printf("| standing of a station | %ld |\n", standing - base);
+    if (reading) printf("| reading a survey | %ld |\n", reading - base);
+    if (writing) printf("| writing a survey | %ld |\n", writing - base);
+    if (night) printf("| night list | %ld |\n", night - base);
     printf("\n%ld questions on %ld meshes.\n", asked, meshes);
     return 0;
 }

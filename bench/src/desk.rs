@@ -6,6 +6,7 @@
 mod interface;
 #[allow(unused_imports)]
 use interface::c::*;
+pub use interface::PAGE_BYTES;
 
 #[cfg(with_holding)]
 pub fn verdict(n: usize, table: &[u64], k: usize, set: &[u64]) -> [u64; 2] {
@@ -53,4 +54,12 @@ pub fn list(n: usize, table: &[u64], k: usize, list: &mut [u64]) -> [u64; 2] {
     let mut groups = 0;
     let refusal = unsafe { desk_list(n, table.as_ptr(), table.len(), k, list.as_mut_ptr(), list.len(), &mut groups) };
     [refusal, groups]
+}
+
+/// Refusal, length of the page.
+#[cfg(with_night)]
+pub fn night_list(bytes: &[u8], page: &mut [u8]) -> [u64; 2] {
+    let mut length = 0;
+    let refusal = unsafe { desk_night_list(bytes.as_ptr(), bytes.len(), page.as_mut_ptr(), page.len(), &mut length) };
+    [refusal, length]
 }

@@ -267,6 +267,19 @@ fn bipartite(n: usize, side: usize, percent: usize) -> Mesh {
     mesh
 }
 
+/// Cliques of `size` stations, as many as there is room for, all linked with the last `hubs` stations, which are linked too.
+fn cliques_over_hubs(n: usize, size: usize, hubs: usize) -> Mesh {
+    let mut mesh = Mesh::new(format!("cliques of {} over {} hubs", size, hubs), n);
+    for a in 0..n {
+        for b in a + 1..n {
+            if b >= n - hubs || a / size == b / size {
+                mesh.link(a, b);
+            }
+        }
+    }
+    mesh
+}
+
 /// The six families of the routes question.
 pub fn for_routes(n: usize) -> Vec<Mesh> {
     vec![
@@ -325,6 +338,13 @@ pub fn all(n: usize) -> Vec<Mesh> {
     shuffled.name = "Harary 16, shuffled".to_string();
     meshes.push(shuffled);
     meshes
+}
+
+/// Large pages of the night list: the most groups of a level, chains of many cliques and of many lines, and the most bytes.
+pub fn large_pages() -> Vec<Mesh> {
+    let mut pairs = islands(256, 2, 100);
+    pairs.name = "128 linked pairs".to_string();
+    vec![pairs, clique_chain(256, 3, 1), clique_chain(256, 17, 1), cliques_over_hubs(256, 4, 13)]
 }
 
 /// Families at a fixed number of links a station, to see how time grows with n.

@@ -6,6 +6,7 @@
 //!     bench list    TIMES
 //!     bench list64  TIMES              the library's times for the peers in Python
 //!     bench files   TIMES
+//!     bench night   TIMES [PROGRAM]    PROGRAM, the night list program, is run as a process
 
 mod desk;
 mod engine;
@@ -13,9 +14,11 @@ mod families;
 mod files;
 mod flow;
 mod measure;
+mod page;
 mod part_files;
 mod part_holding;
 mod part_list;
+mod part_night;
 mod part_routes;
 mod question;
 mod set;
@@ -30,9 +33,10 @@ fn main() {
         "holding" => part_holding::run(times),
         "list" => part_list::run(times),
         "files" => part_files::run(times),
+        "night" => part_night::run(times, word(3)),
         "list64" => part_list::write_times(times),
         _ => {
-            eprintln!("bench meshes | routes TIMES [LEMON FILE] | holding TIMES | list TIMES | list64 TIMES | files TIMES");
+            eprintln!("bench meshes | routes TIMES [LEMON FILE] | holding TIMES | list TIMES | list64 TIMES | files TIMES | night TIMES [PROGRAM]");
             std::process::exit(2);
         }
     }

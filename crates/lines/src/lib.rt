@@ -4,9 +4,10 @@ ghost use mathlib.Core.Path.{_≡_};
 ghost use Prim.Native.Nat.{_+_, _*_, _<_, _≤_};
 ghost use mathlib.Core.List.{_++_};
 ghost use lib.ListN.{length, getD};
-ghost use Rattle.stations.specs.Sets.{size, one-if};
+ghost use Rattle.stations.specs.Sets.{size};
 ghost use Rattle.stations.specs.Words.{members};
-ghost use Rattle.lines.specs.Lines.{decimal, serial-if, serials-of, first-line, group-line, last-line, refused-line, Added};
+ghost use Rattle.lines.specs.Lines.{decimal, labelled, serials-of, first-line, group-line, last-line, refused-line, Added};
+use stations::Found;
 use stations::StationSet;
 
 // The bytes of a text.
@@ -39,28 +40,37 @@ fn put_labelled(page: &mut [u8], at: usize, words: &[u8], x: u64) -> usize
     put_number(page, p, x)
 }
 
-// Station j's serial behind a space, if the set has the station.
-fn put_station(page: &mut [u8], at: usize, serials: &[u32], j: usize, row: StationSet) -> usize
-    requires { ⌜ (j < length (now serials)) × (at + one-if (members row j) * 11 + 10 ≤ length (now page)) ⌝ }
-    ensures { λ r. ⌜ Added at r (serial-if (members row j) (getD (now (serials .entry)) j 0)) (now (page .entry)) (now (page .exit)) × (r ≤ at + one-if (members row j) * 11) ⌝ }
+// Station j's serial behind a space.
+fn put_station(page: &mut [u8], at: usize, serials: &[u32], j: usize) -> usize
+    requires { ⌜ (j < length (now serials)) × (at + 21 ≤ length (now page)) ⌝ }
+    ensures { λ r. ⌜ Added at r (labelled " " (getD (now (serials .entry)) j 0)) (now (page .entry)) (now (page .exit)) × (r ≤ at + 11) ⌝ }
 {
-    if !row.has(j) {
-        return at;
-    }
     let x = records::wide_serial(serials[j]);
     put_labelled(page, at, &[b' '], x as u64)
 }
 
-// The serials of a set's stations, rising.
+// The serials of a set's stations, rising. A station beyond the serials has none, nor has a later one.
 fn put_serials(page: &mut [u8], at: usize, serials: &[u32], row: StationSet) -> usize
     requires { ⌜ (length (now serials) ≤ 256) × (at + size 256 (members row) * 11 + 10 ≤ length (now page)) ⌝ }
     ensures { λ r. ⌜ Added at r (serials-of (length (now (serials .entry))) (now (serials .entry)) (members row)) (now (page .entry)) (now (page .exit)) × (r ≤ at + size 256 (members row) * 11) ⌝ }
 {
     let mut place = at;
-    for j in 0..serials.len() {
-        place = put_station(page, place, serials, j, row);
+    let mut rest = row;
+    loop {
+        let f = rest.first();
+        match f {
+            Found::At(j) => {
+                if serials.len() <= j {
+                    return place;
+                }
+                place = put_station(page, place, serials, j);
+                rest = rest.without(j);
+            }
+            Found::Nothing => {
+                return place;
+            }
+        }
     }
-    place
 }
 
 // A group's line: the level, the place in that level's list from 1, the serials.

@@ -6,13 +6,15 @@ ghost use Rattle.listing.specs.Steps.{Pruned, Dividing, Divided};
 use stations::Found;
 use stations::StationSet;
 
-// Takes out of p each station with fewer than k links to what is left of it. The links of a station taken out are looked at again.
+// Takes out of p each station with fewer than k links to what is left of it. It goes by rounds: a round looks at each station of todo once, and
+// the links of those it takes out are what the next one looks at.
 pub(crate) fn prune(table: &[u64], p: StationSet, k: usize) -> StationSet
     requires { ⌜ Fits (now table) (members p) × Mesh (linked (now table)) ⌝ }
     ensures { λ r. ⌜ Pruned (linked (now (table .entry))) k (members p) (members r) ⌝ }
 {
     let mut left = p;
     let mut todo = p;
+    let mut again = StationSet::empty();
     loop {
         let f = todo.first();
         match f {
@@ -21,11 +23,15 @@ pub(crate) fn prune(table: &[u64], p: StationSet, k: usize) -> StationSet
                 todo = todo.without(v);
                 if links.size() < k {
                     left = left.without(v);
-                    todo = todo.join(links);
+                    again = again.join(links);
                 }
             }
             Found::Nothing => {
-                return left;
+                todo = again.cut(left);
+                if todo.is_empty() {
+                    return left;
+                }
+                again = StationSet::empty();
             }
         }
     }

@@ -1,65 +1,92 @@
-use borrow.Author.Needs.{needs}
-use mathlib.Core.Path.{_≡_, refl, _∙_}
-use Prim.Native.Nat.{_≤_, _-_}
+-- `lines::put_serials` meets its contract.
+use mathlib.Core.Path.{subst}
+use Prim.Native.Nat.{ℕ}
 use native.Mathlib.Omega.{arith}
-use lib.ListN.{length}
+use borrow.Author.Needs.{needs}
+use Rattle.stations.specs.Sets.{size}
 use Rattle.stations.specs.Words.{members}
-use Rattle.lines.proofs.Serials.{Spelled, spelled-none, spelled-room, spelled-more, spelled-all}
+use Rattle.stations.specs.Answers.{FirstOf, Least}
+use Rattle.lines.proofs.Serials.{Spelled, spelled-none, spelled-all, spelled-room, spelled-more, fewer}
 use Rattle.lines.proofs.put_serials.Statement.{statement}
 use Rattle.lines.proofs.put_serials.Tie as tie
-use Rattle.lines.proofs.put_serials.Reads as reads
-use Rattle.lines.proofs.put_serials.Lts as lts
-use Rattle.lines.proofs.put_station.Reads as put-station-reads
 
 abbrev Inv-loop : tie.InvT-loop
-Inv-loop page₀ at serials row place₀ j₀ j-end page place j =
-    (j ≤ length serials) × (j-end ≡ length serials) × (length page ≡ length page₀) × Spelled at serials (members row) j page₀ place page
+Inv-loop page₀ at serials place₀ rest₀ page place rest = Spelled at serials (members rest₀) page₀ place page (members rest)
 
 abbrev μ-loop : tie.MeasureT-loop
-μ-loop page₀ at serials row place₀ j₀ j-end page place j = length serials - j
+μ-loop page₀ at serials place₀ rest₀ page place rest = size 256 (members rest)
 
--- src/lib.rt:60:5
+-- ---- j is the rest's smallest station
+module _ (c : tie.After-known-told Inv-loop μ-loop) where
+  abbrev at : tie.At-loop Inv-loop μ-loop
+  at = c .before .before .before .before
+
+  abbrev start : tie.Start Inv-loop μ-loop
+  start = at .before .before .before
+
+  abbrev j : ℕ
+  j = c .before .f .given .0 .0
+
+  least : Least (members (at .loop .rest)) j
+  least = subst (FirstOf (members (at .loop .rest))) (c .before .f .given .1) (c .before .before .before .first .ensures)
+
 loop-holds : tie.Need-loop-holds Inv-loop μ-loop
-loop-holds c =
-    (search needs, refl, refl, spelled-none _ _ _ _)
+loop-holds c = spelled-none _ _ _ _
 
--- src/lib.rt:61:9
-put-station-requires : tie.Need-put-station-requires Inv-loop μ-loop
-put-station-requires c κs =
-    let i = c .before .before in
-    let s = i .before .before .before in
-    let I = i .loop .inv in
-    (omega (arith, c .before .loop-test .taken, I .1), spelled-room (s .args .at) (s .args .serials .now) (members (s .args .row)) (i .loop .j) (s .args .page .now) (i .loop .place) (i .loop .page) (I .3) (omega (arith, c .before .loop-test .taken, I .1, s .pre .0)) (omega (arith, s .pre .1, I .2)))
+first-requires : tie.Need-first-requires Inv-loop μ-loop
+first-requires c κs = tt
 
--- src/lib.rt:60:9
-add-j : tie.Need-add-j Inv-loop μ-loop
-add-j c = search needs
+enum-known-f : tie.Need-enum-known-f Inv-loop μ-loop
+enum-known-f c = search needs
 
--- src/lib.rt:60:5
-loop-less : tie.Need-loop-less Inv-loop μ-loop
-loop-less c = search needs
-
--- src/lib.rt:60:5
-loop-again : tie.Need-loop-again Inv-loop μ-loop
-loop-again c =
-    let P = c .before .before in
-    let t = P .before .before in
-    let i = t .before in
-    let s = i .before .before .before in
-    let I = i .loop .inv in
-    (omega (arith, t .loop-test .taken, I .1), refl, P .put-station .ensures .0 .long ∙ I .2, spelled-more (s .args .at) (s .args .serials .now) (members (s .args .row)) (i .loop .j) (s .args .page .now) (i .loop .place) (i .loop .page) (I .3) (omega (arith, t .loop-test .taken, I .1, s .pre .0)) _ _ (P .put-station .ensures .0) (P .put-station .ensures .1))
-
--- src/lib.rt:55:1
 same-length : tie.Need-same-length Inv-loop μ-loop
-same-length c = search needs
+same-length c = at (c .before) .loop .inv .added .long
 
--- src/lib.rt:55:1
 returns : tie.Need-returns Inv-loop μ-loop
 returns c =
-    let i = c .before in
-    let s = i .before .before .before in
-    let I = i .loop .inv in
-    spelled-all (s .args .at) (s .args .serials .now) (members (s .args .row)) (i .loop .j) _ _ _ (I .3) (omega (arith, c .loop-test .left, I .0, I .1)) (omega (arith, I .0, s .pre .0))
+    let k = c .before in
+    let s = start k in
+    spelled-all (s .args .at) (s .args .serials .now) (members (s .args .row)) (s .args .page .now) (at k .loop .place) (at k .loop .page) (members (at k .loop .rest)) (at k .loop .inv) (s .pre .0)
+    (λ x l. least k .below x (omega (arith, c .if1 .taken)))
+
+put-station-requires : tie.Need-put-station-requires Inv-loop μ-loop
+put-station-requires c κs =
+    let k = c .before .before in
+    let s = start k in (
+      c .before .if1 .left,
+      spelled-room (s .args .at) (s .args .serials .now) (members (s .args .row)) (s .args .page .now) (at k .loop .place) (at k .loop .page) (members (at k .loop .rest)) (at k .loop .inv) (s .pre .0)
+          (j k) (least k) (c .before .if1 .left) (omega (arith, s .pre .1, at k .loop .inv .added .long)),
+    )
+
+without-requires : tie.Need-without-requires Inv-loop μ-loop
+without-requires c κs = least (c .before .before .before .before .before) .small
+
+loop-less : tie.Need-loop-less Inv-loop μ-loop
+loop-less c =
+    let k = c .before .before .before .before .before .before in
+    fewer (members (at k .loop .rest)) (members (c .without .result)) (j k) (least k) (c .without .ensures)
+
+loop-again : tie.Need-loop-again Inv-loop μ-loop
+loop-again c =
+    let P = c .before .before .before in
+    let E = P .before .before in
+    let k = E .before in
+    let s = start k in
+    spelled-more (s .args .at) (s .args .serials .now) (members (s .args .row)) (s .args .page .now) (at k .loop .place) (at k .loop .page) (members (at k .loop .rest)) (at k .loop .inv) (s .pre .0)
+    (j k) (least k) (E .if1 .left) _ _ (members (c .without .result)) (P .put-station .ensures .0) (P .put-station .ensures .1) (c .without .ensures)
+
+enum-told : tie.Need-enum-told Inv-loop μ-loop
+enum-told c = search needs
+
+same-length-2 : tie.Need-same-length-2 Inv-loop μ-loop
+same-length-2 c = c .before .before .before .loop .inv .added .long
+
+returns-2 : tie.Need-returns-2 Inv-loop μ-loop
+returns-2 c =
+    let l = c .before .before .before in
+    let s = l .before .before .before in
+    spelled-all (s .args .at) (s .args .serials .now) (members (s .args .row)) (s .args .page .now) (l .loop .place) (l .loop .page) (members (l .loop .rest)) (l .loop .inv) (s .pre .0)
+    (λ x g. subst (FirstOf (members (l .loop .rest))) (c .enum-told .given .1) (c .before .before .first .ensures) x)
 
 pub put-serials-spec : {M : Type 1} → statement M
 put-serials-spec =
@@ -68,9 +95,14 @@ put-serials-spec =
     Inv-loop
     μ-loop
     loop-holds
+    first-requires
+    enum-known-f
+    same-length
+    returns
     put-station-requires
-    add-j
+    without-requires
     loop-less
     loop-again
-    same-length
-    returns)
+    enum-told
+    same-length-2
+    returns-2)
