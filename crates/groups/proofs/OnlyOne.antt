@@ -21,7 +21,9 @@ use Rattle.card.proofs.Card.{first-one, refusal-one, number-above}
 use Rattle.listing.specs.List.{set-at}
 use Rattle.groups.specs.declared.Answer.{Answer}
 use Rattle.groups.specs.declared.Answer.the-variants.{Groups, Refused}
-use Rattle.groups.specs.Reply.{number, count, order, Replies}
+use Rattle.holding.specs.declared.Answer as held
+use Rattle.holding.proofs.OnlyOne.{Worded, holding-only-one}
+use Rattle.groups.specs.Reply.{number, count, order, Replies, RowReplies}
 
 wide-row : (l : List ℕ) (i : ℕ) → Wide l → Wide (row l i)
 wide-row l i w j = go (decLt j 4)
@@ -70,3 +72,11 @@ module _ (n : ℕ) (t : List ℕ) (k : ℕ) (l a b : List ℕ) (wa : Wide a) (wb
       go (Refused g) (Refused h) e f w x y = (ap Refused (refusal-one g h e), x (number-above g) ∙ sym (y (number-above h)))
       go (Refused g) (Groups h) e f w x y = absurd (number-above g e)
       go (Groups g) (Refused h) e f w x y = absurd (number-above h (sym e))
+
+-- the holding question about a row where it stands in the list has one reply too
+pub row-only-one : (n : ℕ) (t : List ℕ) (k : ℕ) (l : List ℕ) (i : ℕ) (r r′ : held.Answer) → Worded r → Worded r′ → RowReplies n t k l i r → RowReplies n t k l i r′ → r ≡ r′
+row-only-one n t k l i r r′ w w′ p q = go (decLt (length l) (i * 4 + 4))
+  where
+    go : Dec (length l < i * 4 + 4) → r ≡ r′
+    go (yes h) = holding-only-one n t k [] r r′ (p .outside h) (q .outside h) w w′
+    go (no h) = holding-only-one n t k (row l i) r r′ (p .inside (omega arith)) (q .inside (omega arith)) w w′

@@ -20,7 +20,7 @@ use Rattle.reader.specs.Reply.{number, version, stations, links}
 use Rattle.lines.specs.Lines.{first-line, last-line, Added}
 use Rattle.page.specs.Page.{group-lines, Levels, Last, Page}
 
--- the most bytes of the first g rows' lines
+-- the most bytes of the line of row i
 abbrev pub line-room : List ℕ → ℕ → ℕ
 line-room l i = 7 + size 256 (set-at l i) * 11
 
