@@ -1,26 +1,27 @@
-//! Every question of the desk from Rust, about the five stations of document 01, through the module rust/desk.rs.
+//! Every question of the desk from Rust, through the module rust/desk.rs, about five stations: two triangles that share
+//! station 2.
 //!
-//!     rustc --edition 2021 -L target/staticlib -l static=desk examples/desk.rs -o desk && ./desk
+//!     rustc --edition 2024 -L target/staticlib -l static=desk examples/desk.rs -o desk && ./desk
 //!
 //! It prints:
 //!
 //!     routes from 0 to 1: Joined
 //!     routes from 0 to 3: Counted(1)
-//!     routes from 2 to 2: refused 7
+//!     routes from 2 to 2: refused 7 STATION: a station's number is n or more, or the two of a pair are one
 //!     all five at level 1: holds
 //!     all five at level 2: weak, the loss of [2] parts them
 //!     the triangle 0, 1, 2 at level 3: few, not above the level
-//!     a set of three words: refused 6
+//!     a set of three words: refused 6 SET: the set has not four words, or has a bit from n up
 //!     three stations, no links, at level 1: weak, the loss of [] parts them
 //!     the verdict alone on all five at level 2: Weak
 //!     group 1 at level 2: [0, 1, 2]; asked where it stands: holds
 //!     group 2 at level 2: [2, 3, 4]; asked where it stands: holds
-//!     a list of one row: refused 5
+//!     a list of one row: refused 5 LIST ROOM: the list has fewer than 4R words
 //!     the standing of station 2: 2
 //!     the standing of stations 0 and 3: 2
 //!     the survey file has 53 bytes
 //!     read again: Survey { version: 1, n: 5, links: 6 }, the same serials and table: true
-//!     without its last byte: refused 11
+//!     without its last byte: refused 11 LENGTH: not 9 + 4n + 4m bytes
 //!     of the two triangles comes first: [0, 1, 2]
 //!     of rows that are not four words: []
 //!     the night list:
@@ -31,7 +32,7 @@
 //!     end 2
 //!     the night list without the last byte:
 //!     refused 11
-//!     the night list in a short buffer: refused 14
+//!     the night list in a short buffer: refused 14 ROOM: what is to be written has no room in its buffer
 
 #[path = "../rust/desk.rs"]
 mod desk;

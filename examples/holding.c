@@ -2,7 +2,7 @@
  *
  *     cc -I include examples/holding.c target/staticlib/libdesk.a -o holding && ./holding
  *
- * It prints, for the five stations of document 01:
+ * It prints, for five stations, two triangles that share station 2:
  *
  *     stations 0 1 2 3 4 at level 1: HOLDS
  *     stations 0 1 2 3 4 at level 2: WEAK, the loss of 2 parts it
@@ -12,21 +12,8 @@
  *     stations 0 3 at level 1: WEAK, and nothing need be lost
  */
 #include <inttypes.h>
-#include <stdio.h>
 #include "desk.h"
-
-/* Station j of a set is bit j mod 64 of word j / 64. A link stands in both rows. */
-static void add_link(uint64_t *table, size_t a, size_t b) {
-    table[4 * a + b / 64] |= UINT64_C(1) << (b % 64);
-    table[4 * b + a / 64] |= UINT64_C(1) << (a % 64);
-}
-
-/* Prints the stations of a set, rising. */
-static void print_stations(const uint64_t set[4]) {
-    for (unsigned j = 0; j < 256; j++)
-        if (set[j / 64] >> (j % 64) & 1)
-            printf(" %u", j);
-}
+#include "common.h"
 
 static void ask(size_t n, const uint64_t *table, size_t k, const uint64_t set[4]) {
     uint64_t verdict, weak[4];
@@ -34,12 +21,10 @@ static void ask(size_t n, const uint64_t *table, size_t k, const uint64_t set[4]
     printf("stations");
     print_stations(set);
     printf(" at level %zu: ", k);
-    if (refused != 0) /* first: a refusal writes verdict 0 too */
+    if (refused != DESK_ANSWERED) /* first: a refusal writes 0 in verdict, as DESK_HOLDS is */
         printf("refused %" PRIu64 "\n", refused);
-    else if (verdict == 0)
-        printf("HOLDS\n");
-    else if (verdict == 1)
-        printf("FEW\n");
+    else if (verdict != DESK_WEAK)
+        printf("%s\n", verdict_name(verdict));
     else if ((weak[0] | weak[1] | weak[2] | weak[3]) == 0)
         printf("WEAK, and nothing need be lost\n");
     else {
@@ -50,17 +35,15 @@ static void ask(size_t n, const uint64_t *table, size_t k, const uint64_t set[4]
 }
 
 int main(void) {
-    static const size_t links[][2] = {{0, 1}, {0, 2}, {1, 2}, {2, 3}, {2, 4}, {3, 4}};
     static const uint64_t all[4] = {0x1f}, triangle[4] = {0x07}, apart[4] = {0x09};
     uint64_t five[4 * 5] = {0};
 
-    for (size_t i = 0; i < sizeof links / sizeof links[0]; i++)
-        add_link(five, links[i][0], links[i][1]);
+    link_five(five);
     ask(5, five, 1, all);
     ask(5, five, 2, all);
     ask(5, five, 2, triangle);
     ask(5, five, 3, triangle);
-    ask(5, five, 17, all);
+    ask(5, five, DESK_LEVEL_MOST + 1, all);
     ask(5, five, 1, apart);
     return 0;
 }

@@ -15,22 +15,16 @@
  *     written back: the same 281 bytes
  */
 #include <inttypes.h>
-#include <stdio.h>
 #include <string.h>
 #include "desk.h"
+#include "common.h"
 
-enum {
-    STATIONS = 256,        /* the most there can be */
-    FILE_BYTES = 33801,    /* the longest survey */
-    LIST_WORDS = 4 * 128   /* four a group, and no level has more than 128 */
-};
-
-static uint8_t file[FILE_BYTES + 1], again[FILE_BYTES]; /* a byte more, so that a longer file is refused */
-static uint32_t serials[STATIONS];
-static uint64_t table[4 * STATIONS], list[LIST_WORDS];
+static uint8_t file[DESK_FILE_BYTES + 1], again[DESK_FILE_BYTES];
+static uint32_t serials[DESK_STATIONS];
+static uint64_t table[DESK_TABLE_WORDS], list[DESK_LIST_WORDS];
 
 static void print_serials(const uint64_t set[4]) {
-    for (unsigned j = 0; j < STATIONS; j++)
+    for (unsigned j = 0; j < DESK_STATIONS; j++)
         if (set[j / 64] >> (j % 64) & 1)
             printf(" %" PRIu32, serials[j]);
 }
@@ -39,10 +33,10 @@ static void ask(size_t n, size_t k, const uint64_t set[4]) {
     uint64_t verdict, weak[4];
     uint64_t refused = desk_holding(n, table, 4 * n, k, set, 4, &verdict, &weak[0], &weak[1], &weak[2], &weak[3]);
     printf("  at level %zu: ", k);
-    if (refused != 0) {
+    if (refused != DESK_ANSWERED) {
         printf("refused %" PRIu64 "\n", refused);
-    } else if (verdict != 2) {
-        printf(verdict == 0 ? "HOLDS\n" : "FEW\n");
+    } else if (verdict != DESK_WEAK) {
+        printf("%s\n", verdict_name(verdict));
     } else {
         printf("WEAK, the loss of");
         print_serials(weak);
@@ -51,24 +45,20 @@ static void ask(size_t n, size_t k, const uint64_t set[4]) {
 }
 
 int main(int count, char **words) {
-    FILE *in = count == 2 ? fopen(words[1], "rb") : NULL;
-    if (in == NULL) {
-        fprintf(stderr, "use: survey FILE\n");
+    size_t bytes;
+    if (!take_file(count, words, file, &bytes))
         return 2;
-    }
-    size_t bytes = fread(file, 1, sizeof file, in);
-    fclose(in);
 
     uint64_t version, n, links, groups, length;
-    uint64_t refused = desk_read(file, bytes, serials, STATIONS, table, 4 * STATIONS, &version, &n, &links);
-    if (refused != 0) {
+    uint64_t refused = desk_read(file, bytes, serials, DESK_STATIONS, table, DESK_TABLE_WORDS, &version, &n, &links);
+    if (refused != DESK_ANSWERED) {
         printf("refused %" PRIu64 "\n", refused);
         return 1;
     }
     printf("version %" PRIu64 ", %" PRIu64 " stations, %" PRIu64 " links\n", version, n, links);
 
-    refused = desk_list(n, table, 4 * n, 3, list, LIST_WORDS, &groups); /* not refused: table, level and room are good */
-    for (size_t i = 0; refused == 0 && i < groups; i++) {
+    refused = desk_list(n, table, 4 * n, 3, list, DESK_LIST_WORDS, &groups); /* not refused: table, level and room are good */
+    for (size_t i = 0; refused == DESK_ANSWERED && i < groups; i++) {
         printf("group %zu of %" PRIu64 ":", i + 1, groups);
         print_serials(list + 4 * i);
         printf("\n");
@@ -82,7 +72,7 @@ int main(int count, char **words) {
     ask(n, 3, all);
 
     refused = desk_write(n, serials, n, table, 4 * n, again, sizeof again, &length);
-    int same = refused == 0 && length == bytes && memcmp(file, again, bytes) == 0;
+    int same = refused == DESK_ANSWERED && length == bytes && memcmp(file, again, bytes) == 0;
     printf("written back: %s %" PRIu64 " bytes\n", same ? "the same" : "other", length);
     return same ? 0 : 1;
 }

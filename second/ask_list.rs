@@ -143,7 +143,7 @@ fn refused(desk: &mut Desk, tally: &mut Tally, rand: &mut Rand, rounds: usize) {
     }
 }
 
-/// The rows of document 01.
+/// The rows of the table of small meshes.
 fn by_hand(desk: &mut Desk, tally: &mut Tally, rand: &mut Rand) {
     for row in hand::rows() {
         if let Asked::List(k, groups) = &row.asked {

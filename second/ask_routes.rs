@@ -124,7 +124,7 @@ fn refused(desk: &mut Desk, tally: &mut Tally, rand: &mut Rand, rounds: usize) {
     }
 }
 
-/// The rows of document 01: their counts, and every pair of every mesh of the table.
+/// The rows of the table of small meshes: their counts, and every pair of every mesh of the table.
 fn by_hand(desk: &mut Desk, tally: &mut Tally) {
     for row in hand::rows() {
         let (n, table) = (row.mesh.n, &row.mesh.table);

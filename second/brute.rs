@@ -1,4 +1,4 @@
-//! The definitions of document 01 over all subsets of a few stations. A set is a mask of `u32`.
+//! What the rules (docs/RULES.md) say, over all subsets of a few stations. A set is a mask of `u32`.
 //! `Brute` knows of every set whether it is whole; all replies come from that by trying every part.
 
 use crate::mesh::Mesh;

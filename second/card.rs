@@ -1,4 +1,4 @@
-//! The refusal card of document 01, in the order of each question.
+//! The refusal card, in the order of each question.
 
 pub const LEVEL: u64 = 1;
 pub const STATIONS: u64 = 2;

@@ -1,4 +1,4 @@
-//! The small meshes of document 01 that are checked by hand, P and not P, with its replies. `run` has this program
+//! The table of small meshes of the rules, P and not P, with its replies. `run` has this program
 //! alone answer them, by all subsets and by the other ways, before anything is compared; each question then asks
 //! them of the library too.
 
@@ -14,7 +14,7 @@ fn mask(stations: &[usize]) -> u32 {
     stations.iter().fold(0, |set, &a| set | 1 << a)
 }
 
-/// What is asked of a mesh, with document 01's reply.
+/// What is asked of a mesh, with the table's reply.
 pub enum Asked {
     Whole(usize, Verdict),
     List(usize, Vec<Vec<usize>>),
@@ -27,7 +27,7 @@ pub struct Row {
     pub asked: Asked,
 }
 
-/// The night list that document 01 prints.
+/// The night list that the rules print.
 const PAGE_OF_FIVE: &str = "\
 RLM 1 stations 5 links 6
 1 1 101 102 103 104 105
@@ -41,7 +41,7 @@ fn five() -> Mesh {
     Mesh::of_links(5, &[(0, 1), (0, 2), (1, 2), (2, 3), (2, 4), (3, 4)])
 }
 
-/// Every row of document 01's table, in its order.
+/// Every row of the table, in its order.
 pub fn rows() -> Vec<Row> {
     let mut four = Mesh::unlinked(4);
     four.join_all(&[0, 1, 2, 3]);
@@ -81,7 +81,7 @@ pub fn rows() -> Vec<Row> {
     ]
 }
 
-/// Does this program reply what document 01 says?
+/// Does this program reply what the table says?
 fn agrees(row: &Row) -> bool {
     let mesh = &row.mesh;
     let all: Vec<usize> = (0..mesh.n).collect();
@@ -110,7 +110,7 @@ fn agrees(row: &Row) -> bool {
     }
 }
 
-/// True if every row and every limit comes out as document 01 says.
+/// True if every row and every limit comes out as the rules say.
 pub fn run() -> bool {
     let file = survey::write(5, &[101, 102, 103, 104, 105], &five().table, 53).unwrap_or_default();
     let mut tests: Vec<(&str, bool)> = rows().iter().map(|row| (row.name, agrees(row))).collect();

@@ -1,4 +1,4 @@
-//! The independent second program: written from document 01 alone, it answers by brute force and by ways of
+//! The independent second program: written from the rules alone, it answers by brute force and by ways of
 //! its own, and compares every reply and every lent buffer with the library's.
 //!
 //!     second [--long] [routes] [holding] [list] [standings] [files] [order] [night] [-- bridge command]
@@ -95,15 +95,17 @@ fn main() {
             std::process::exit(2);
         }
     }
+    if known.is_empty() {
+        eprintln!("no question in this build: there is nothing to compare");
+        std::process::exit(2);
+    }
     let mut good = hand::run();
-    if !known.is_empty() {
-        let mut desk = desk::Desk::open(&command);
-        for (name, run) in known {
-            if words.is_empty() || words.iter().any(|word| word == name) {
-                let start = std::time::Instant::now();
-                good &= run(&mut desk, times);
-                println!("  {} s", start.elapsed().as_millis() as f64 / 1000.0);
-            }
+    let mut desk = desk::Desk::open(&command);
+    for (name, run) in known {
+        if words.is_empty() || words.iter().any(|word| word == name) {
+            let start = std::time::Instant::now();
+            good &= run(&mut desk, times);
+            println!("  {} s", start.elapsed().as_millis() as f64 / 1000.0);
         }
     }
     println!("{}", if good { "all the same" } else { "NOT THE SAME" });

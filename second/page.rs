@@ -1,4 +1,4 @@
-//! The page of the night list for any bytes, as document 01 prints it. The groups of a few stations come from all
+//! The page of the night list for any bytes, as rules N1 to N4 have it. The groups of a few stations come from all
 //! subsets, those of more from `pieces`.
 
 use crate::brute::Brute;

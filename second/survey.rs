@@ -1,4 +1,4 @@
-//! A reader and a writer of survey files of version 1, from the table of document 01 alone.
+//! A reader and a writer of survey files of version 1, from the rules F1 to F9 alone.
 
 use crate::card;
 use crate::mesh::Mesh;

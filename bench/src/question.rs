@@ -1,4 +1,4 @@
-//! The plain Rust peer of the questions: the tests of document 01's card in order, then the engine.
+//! The plain Rust peer of the questions: the tests of the card in order, then the engine.
 
 use crate::engine;
 use crate::flow::{routes, Cut};

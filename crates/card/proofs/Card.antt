@@ -10,11 +10,12 @@ use lib.Dec.{eqb}
 use lib.ListN.{length}
 use borrow.Author.Tests.{le-leb, lt-leb}
 use Rattle.mesh.specs.Mesh.{R}
-use Rattle.mesh.specs.Table.{linked, Table}
+use Rattle.stations.proofs.Bools.{never}
+use Rattle.mesh.specs.Table.{linked, Table, Fault, self-link, one-sided, from-n-up}
 use Rattle.mesh.proofs.NeverMore.{never-more}
 use Rattle.card.specs.declared.Refusal.{Refusal}
 use Rattle.card.specs.declared.Refusal.the-variants.{Level, Stations, TableLength, ListRoom, Set, Station, Mark, Version, Count, Length, Serial, Link, Room, Rows}
-use Rattle.card.specs.Card.{number, Test, FirstFailing, earlier, table-order, ROWS}
+use Rattle.card.specs.Card.{number, Test, FirstFailing, earlier, LEVEL, table-order, ROWS}
 use Rattle.card.proofs.TableTest.{accepted}
 
 -- two numbers that are both that of the first failing test are the same
@@ -42,6 +43,10 @@ none-fails (t ∷ ts) m (inr p) = (p .0, none-fails ts (m .1) (p .1))
 pub passes-none : (ts : List Test) → Passes ts → FirstFailing ts 0
 passes-none [] p = refl
 passes-none (t ∷ ts) p = inr (p .0, passes-none ts (p .1))
+
+-- where every test passes, no number but 0 is given
+pub none-given : (ts : List Test) (r : ℕ) → FirstFailing ts r → Passes ts → r ≡ 0
+none-given ts r f p = first-one ts r 0 f (passes-none ts p)
 
 -- first these tests, then those
 pub first-then : (ts us : List Test) (a b : ℕ) → Numbered ts → FirstFailing ts a → FirstFailing us b → FirstFailing (ts ++ us) (earlier a b)
@@ -112,6 +117,19 @@ table-passed n t us m f = go (none-fails (table-order n t ++ us) (omega arith, (
 
     go : Passes (table-order n t ++ us) → Table n t × Passes us
     go (few, (h, (fault, rest))) = (accepted n t (omega arith) (long h (ℕ-discrete (length t) (n * 4))) fault, rest)
+
+-- and an accepted table passes them; a level from 1 to 16 passes its test
+pub table-passes : (n : ℕ) (t : List ℕ) (us : List Test) → Table n t → Passes us → Passes (table-order n t ++ us)
+table-passes n t us T p = (λ x. omega (arith, T .few), (λ x. x (T .long), (faultless, p)))
+  where
+    faultless : ¬ Fault n t
+    faultless (self-link a l e) = never (linked t a a) e (T .apart a)
+    faultless (one-sided a b l m e o) = never (linked t b a) (T .both a b e) o
+    faultless (from-n-up a b l g e) = omega (arith, T .below a b e)
+
+pub level-passes : (k : ℕ) → 1 ≤ k → k ≤ 16 → ¬ (LEVEL k .fails)
+level-passes k a b (inl x) = omega arith
+level-passes k a b (inr x) = omega arith
 
 -- ---- the rows of a list
 pub no-rows : (n k : ℕ) → n ≤ k → 0 ≡ R n k

@@ -1,4 +1,4 @@
--- THE REFUSAL CARD of document 01: the number of each refusal, and when it is given.
+-- THE REFUSAL CARD, docs/CARD.md: the number of each refusal, and when it is given.
 --   number r              the card's number of the refusal r
 --   Test                  a line of the card put to an input: its number, and what it is given exactly for
 --   FirstFailing ts r     r is the number of the first test of the list that fails; 0 where none does
@@ -46,7 +46,7 @@ pub record Test : Type 1 where
   pub refusal : ℕ
   pub fails : Type 0
 
--- "Bad input is refused by number, the first in a fixed order."
+-- rule C2: of several reasons the first in the order counts
 abbrev pub FirstFailing : List Test → ℕ → Type 0
 FirstFailing [] r = r ≡ 0
 FirstFailing (t ∷ ts) r = ((t .fails) × (r ≡ t .refusal)) ⊎ ((¬ (t .fails)) × FirstFailing ts r)
@@ -61,39 +61,39 @@ pub record Says (P : Type 0) (r : Bool) : Type 0 where
   pub yes-so : r ≡ true → P
   pub not-so : r ≡ false → ¬ P
 
--- 1: "k is 0 or above 16"
+-- 1: no level from 1 to 16
 abbrev pub LEVEL : ℕ → Test
 LEVEL k = record { refusal = 1; fails = (k ≡ 0) ⊎ (16 < k) }
 
--- 2: "n above 256"
+-- 2: more than 256 stations
 abbrev pub STATIONS : ℕ → Test
 STATIONS n = record { refusal = 2; fails = 256 < n }
 
--- 3: "table isn't 4n words"
+-- 3: not four words a station
 abbrev pub TABLE-LENGTH : ℕ → List ℕ → Test
 TABLE-LENGTH n t = record { refusal = 3; fails = ¬ (length t ≡ n * 4) }
 
--- 4: "a self link, a one-sided link or a bit from n up"
+-- 4: the table has a fault
 abbrev pub TABLE : ℕ → List ℕ → Test
 TABLE n t = record { refusal = 4; fails = Fault n t }
 
--- 5: "list buffer under 4R words"; R goes by n and k even where fewer groups exist
+-- 5: no room for R rows; R goes by n and k, and not by how many groups there are (rule L9)
 abbrev pub LIST-ROOM : ℕ → ℕ → ℕ → Test
 LIST-ROOM n k words = record { refusal = 5; fails = words < R n k * 4 }
 
--- 6: "not four words, or a bit from n up"
+-- 6: no set of stations of this mesh
 abbrev pub SET : ℕ → List ℕ → Test
 SET n s = record { refusal = 6; fails = (¬ (length s ≡ 4)) ⊎ ((j : ℕ) × (n ≤ j) × (j is-in has s)) }
 
--- 7: "a number not below n", of one station
+-- 7: no station of this mesh
 abbrev pub STATION : ℕ → ℕ → Test
 STATION n a = record { refusal = 7; fails = n ≤ a }
 
--- 7: "a number not below n, or a pair of equal numbers"
+-- 7: not two different stations of this mesh
 abbrev pub PAIR : ℕ → ℕ → ℕ → Test
 PAIR n a b = record { refusal = 7; fails = (n ≤ a) ⊎ (n ≤ b) ⊎ (a ≡ b) }
 
--- 15: "while listing, unfinished pieces of more than k stations and finished groups together need more than R rows"
+-- 15: some division needs more than R rows (rule L11); it never fails (rows-pass)
 abbrev pub ROWS : ℕ → List ℕ → ℕ → Test
 ROWS n t k = record { refusal = 15; fails = (Ps : List sets.Set) × Dividing (linked t) n k Ps × (R n k < needed n k Ps) }
 

@@ -11,7 +11,7 @@ ghost use Rattle.card.specs.Card.{number, verdict, earlier, FirstFailing
 ghost use Rattle.card.specs.Tests.{Mirrored, MirroredRow, RowFault};
 use stations::StationSet;
 
-// The card of document 01, in its order.
+// The card (docs/CARD.md), in its order.
 pub enum Refusal {
     Level,
     Stations,

@@ -1,4 +1,4 @@
--- What each exported question says: the reply of the question itself, in the paper's numbers.
+-- What each exported question says: the reply of the question itself, in the numbers of the rules. And what it means that a question refuses (Refuses).
 use mathlib.Core.List.{List, [], _∷_}
 use mathlib.Core.Path.{_≡_}
 use Prim.Native.Nat.{ℕ, zero, suc}
@@ -7,6 +7,7 @@ use lib.ListN.{length, take}
 use Rattle.stations.specs.Sets.{one-if, Before}
 use Rattle.stations.specs.Words.{has}
 use Rattle.stations.specs.Answers.{FirstRow}
+use Rattle.card.specs.Card.{Test, FirstFailing}
 use Rattle.routes.specs.declared.Answer as routed
 use Rattle.routes.specs.Reply as routes
 use Rattle.holding.specs.declared.Answer as held
@@ -24,6 +25,11 @@ use Rattle.writer.specs.declared.WriteAnswer.{WriteAnswer}
 use Rattle.writer.specs.Reply as writer
 use Rattle.page.specs.declared.PageAnswer.{PageAnswer}
 use Rattle.page.specs.Reply as page
+
+-- r is the number of the first failing test of the order, 0 where none fails; and a refusal leaves things so
+pub record Refuses (order : List Test) (r : ℕ) (Left : Type 0) : Type 0 where
+  pub first : FirstFailing order r
+  pub left : ¬ (r ≡ 0) → Left
 
 -- The order question. Its reply is a part of one of the caller's own rows, and two numbers name it: r the row, 0 for the first and 1 for the second
 -- (row-named), and words how many words it has, from where the row begins (beginning).

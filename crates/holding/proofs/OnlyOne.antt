@@ -43,7 +43,7 @@ from-words ws = record { a = getD ws 0 0; b = getD ws 1 0; c = getD ws 2 0; d = 
 pub same-words : (x y : StationSet) → words x ≡ words y → x ≡ y
 same-words x y e = ap from-words e
 
--- two replies alike in the paper's numbers and set are the same, as words of 64 bits
+-- two replies alike in their numbers and set are the same, as words of 64 bits
 alike-same : (r r′ : Answer) → Worded r → Worded r′ → verdict r ≡ verdict r′ → number r ≡ 0 → number r′ ≡ 0 → weak-set r ≡ weak-set r′ → r ≡ r′
 alike-same Holds Holds w w′ v a b e = refl
 alike-same Few Few w w′ v a b e = refl
@@ -59,7 +59,7 @@ alike-same Holds (Refused y) w w′ v a b e = absurd (number-above y b)
 alike-same Few (Refused y) w w′ v a b e = absurd (number-above y b)
 alike-same (Weak x) (Refused y) w w′ v a b e = absurd (number-above y b)
 
--- the reply as document 01 has it, and its numbers and set
+-- the reply as mesh/specs has it, and its numbers and set
 to-reply : (L : Links) (n k : ℕ) (s : Set) (r : Answer) → Right L n k s r → (x : Reply) × Answers L n k s x × (verdict r ≡ code x) × (weak-set r ≡ named none x)
 to-reply L n k s Holds h = (HOLDS, h, refl, refl)
 to-reply L n k s Few h = (FEW, h, refl, refl)

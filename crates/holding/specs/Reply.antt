@@ -1,6 +1,6 @@
--- The holding question: its replies in the paper's words and numbers, and when each is right. Document 01, "What holding means" and "Order".
+-- The holding question: its replies in the numbers of the rules, and when each is right. Rules H1 to H4 and H7.
 --   number r, verdict r, weak-set r    the refusal's number (0 where answered); 0 HOLDS, 1 FEW, 2 WEAK; the set of the reply
---   order n t k s                      "Holding: 2, 3, 4, 1, 6"
+--   order n t k s                      2, 3, 4, 1, 6
 --   Judges n t k s r                   r is the verdict alone
 --   Replies n t k s r                  r is the reply about the set s at level k, in the table t of n stations
 use mathlib.Core.List.{List, [], _∷_}
@@ -29,7 +29,7 @@ verdict Few = 1
 verdict (Weak s) = 2
 verdict (Refused r) = 0
 
--- "HOLDS or FEW, each with an empty set, or WEAK with its weak set"; "A refusal returns its number, with .. an empty set"
+-- the weak set of WEAK, and otherwise the empty set
 abbrev pub weak-set : Answer → Set
 weak-set Holds = none
 weak-set Few = none

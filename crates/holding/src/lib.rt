@@ -15,7 +15,7 @@ pub enum Answer {
     Refused(Refusal),
 }
 
-// The reply in the paper's numbers.
+// The reply in the numbers of the rules.
 impl Answer {
     // The refusal's number, 0 where answered.
     pub fn number(self) -> u64

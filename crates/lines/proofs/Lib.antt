@@ -2,3 +2,4 @@
 pub mod Adding
 pub mod Decimal
 pub mod Serials
+pub mod Unbroken

@@ -1,14 +1,16 @@
--- THE LINES of the night list, as bytes. Document 01, "The night list program".
+-- THE LINES of the night list, as bytes. Rules N2 and N4.
 --   text s                          the bytes of a quoted text
 --   decimal x                       a number in decimal
 --   labelled s x                    a text and a number behind it
---   first-line v n m                "First line: mark, version, n, m."
---   group-line k place serials s    "Group lines: level, place in that level's list from 1, serials rising."
---   last-line k                     "Last line: the highest level with a group, 0 if none."
---   refused-line r                  "A refused survey prints only one line, as `refused 8`"
+--   first-line v n m                the mark, the version, how many stations and links
+--   group-line k place serials s    the level, the place in its list, the serials of the stations of s, rising
+--   last-line k                     the last level that has a group
+--   refused-line r                  the one line of a refused survey
+--   Line bs                         bytes up to a line break, the only one
 --   Added at r new bs bs′           bs became bs′ by the bytes `new` from byte `at` on, and r is the place after them
 use mathlib.Core.Bool.{Bool, true, false, cond}
 use mathlib.Core.List.{List, [], _∷_, _++_}
+use mathlib.Core.Logic.{_≢_}
 use mathlib.Core.Path.{_≡_}
 use Prim.Native.Char.{code}
 use Prim.Native.Nat.{ℕ, zero, suc, _+_, _/_, _%_}
@@ -61,6 +63,16 @@ last-line k = labelled "end " k ++ text "\n"
 
 abbrev pub refused-line : ℕ → List ℕ
 refused-line r = labelled "refused " r ++ text "\n"
+
+-- no byte of it is a line break
+abbrev pub Unbroken : List ℕ → Type 0
+Unbroken [] = Unit {0}
+Unbroken (b ∷ bs) = (b ≢ 10) × Unbroken bs
+
+pub record Line (bs : List ℕ) : Type 0 where
+  pub words : List ℕ
+  pub unbroken : Unbroken words
+  pub is : bs ≡ words ++ text "\n"
 
 pub record Added (at r : ℕ) (new bs bs′ : List ℕ) : Type 0 where
   pub next : r ≡ at + length new

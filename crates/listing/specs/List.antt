@@ -30,8 +30,7 @@ pub record Asked (t : List ℕ) (D : Set) (k : ℕ) (l : List ℕ) : Type 0 wher
   pub mesh : Mesh (linked t)
   pub room : R (size 256 D) k * 4 ≤ length l
 
--- "The list reply is the number of groups g. The first 4g words of the list buffer are the groups in order; the remaining words of the R rows are
--- 0; words past 4R are untouched." l is the list before, l' the list after.
+-- rule L8: g groups in the first g rows, zeros in the rest of the R rows, and what is behind those stays. l is the list before, l' the list after.
 pub record Listing (t : List ℕ) (D : Set) (k : ℕ) (l l' : List ℕ) (g : ℕ) : Type 0 where
   pub listed : ListedIn (linked t) 256 k D g (set-at l')
   pub most : g ≤ R (size 256 D) k

@@ -18,8 +18,8 @@ pub fn list_within(table: &[u64], set: StationSet, k: usize, list: &mut [u64]) -
     }
     let most = (n - k + 1) / 2;
     set.put_row(list, 0);
-    let g = steps::gather(table, k, list);
-    rows::clear(list, g, most);
-    rows::sort(list, g);
-    g
+    let found = steps::gather(table, k, list);
+    rows::clear(list, found, most);
+    rows::sort(list, found);
+    found
 }

@@ -26,7 +26,7 @@ total (suc t) f = f t + total t f
 abbrev pub weight : ℕ → ℕ → ℕ
 weight k m = (m + 1 - k) / 2
 
--- document 01's R is the weight of all stations
+-- R is the weight of all stations
 pub rows-weight : (n k : ℕ) → R n k ≡ weight k n
 rows-weight n k = go (leb n k) refl
   where

@@ -1,4 +1,5 @@
--- Chains: how Touch goes with larger sets, longer chains and back; a station of a set that holds at k has at least k links inside it (degree).
+-- Chains: how Touch goes with larger sets, longer chains and back; a set of one is whole (one-whole); a station of a set that holds at k has at
+-- least k links inside it (degree).
 use mathlib.Core.Path.{_≡_, refl}
 use mathlib.Core.Logic.{_⊎_, inl, inr}
 use mathlib.Core.Bool.{Bool, true, false}
@@ -39,6 +40,10 @@ module _ {L : Links} {s : Set} where
   pub closed-touch : (i : Set) → ((x y : ℕ) → x is-in i → y is-in s → L x y ≡ true → y is-in i) → {a b : ℕ} → Touch L s a b → a is-in i → b is-in i
   closed-touch i cl (here p) h = h
   closed-touch i cl (step {a = a} {b = b} p l c) h = closed-touch i cl c (cl a b h (touch-start c) l)
+
+-- a set of one is whole
+pub one-whole : (L : Links) (a : ℕ) → Whole L (only a)
+one-whole L a x y h g = rw (only-is a x h, only-is a y g) (here (is-only a))
 
 -- each station of a set that holds at k has at least k links inside it
 pub degree : (L : Links) (n k : ℕ) (s : Set) → Mesh L → Holds L n k s → (x : ℕ) → x is-in s → k ≤ size n (s cut L x)

@@ -59,6 +59,6 @@ weigh-divided L n k (divided before after P S t I d sp few isl) = omega (
   bound L n k P S t I isl sp few,
 )
 
--- "Unfinished pieces with more than k stations and finished groups together never need more than R rows."
+-- rule L11: however a mesh is divided, its pieces of more than k stations never need more than R rows
 pub never-more : (L : Links) (n k : ℕ) (Ps : List Set) → Dividing L n k Ps → needed n k Ps ≤ R n k
 never-more L n k Ps d = omega (arith, needed-weigh n k Ps, weigh-divided L n k d, rows-weight n k)

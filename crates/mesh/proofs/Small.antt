@@ -1,4 +1,6 @@
--- Small meshes, decided by computation: the tests (Decide), that they say what the definitions say (Decided), the table of document 01 (Shown).
+-- Small meshes, decided by computation: the tests (Decide), that they say what the definitions say (Decided), the table of
+-- small meshes (Shown), and examples that hold a definition from the other side (Examples).
 pub mod Decide
 pub mod Decided
 pub mod Shown
+pub mod Examples

@@ -1,6 +1,5 @@
--- The pieces that refusal 15 speaks of. Document 01: "The pieces that 15 speaks of start with the set of all stations; a piece that doesn't hold is
--- replaced at once by the islands left by a loss of fewer than k of its stations, each joined with that loss, and those of k stations or fewer
--- are dropped."
+-- The pieces of a search that divides, rule L11: all stations first, and then a piece after the other gives way to the islands that a loss of fewer than
+-- k of its stations leaves, each joined with that loss, those of k stations or fewer left out.
 --   Islands L P S t I       I 0 to I (t - 1) are the islands of P without S
 --   parts n k S t I         each joined with S, without those of k stations or fewer
 --   Dividing L n k Ps       Ps are the pieces after some divisions
@@ -24,6 +23,8 @@ unfoldable pub parts : ℕ → ℕ → Set → ℕ → (ℕ → Set) → List Se
 parts n k S zero I = []
 parts n k S (suc t) I = cond (ltb k (size n (I t joined S))) ((I t joined S) ∷ parts n k S t I) (parts n k S t I)
 
+-- Wider than the rule: any piece may be divided, one that holds too, by any loss of fewer than k, one that does not part it too, and some islands
+-- may stay together. What is shown of every such division is so shown of those of the rule. Small/Examples has one: the five stations divided by {2}.
 pub data Dividing (L : Links) (n k : ℕ) : List Set → Type 0 where
   all-stations : Dividing L n k (stations n ∷ [])
   divided : (before after : List Set) (P S : Set) (t : ℕ) (I : ℕ → Set) → Dividing L n k (before ++ (P ∷ after)) → S part-of P → size n S < k

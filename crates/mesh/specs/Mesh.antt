@@ -1,5 +1,5 @@
 -- THE MEANING: what it is to be in touch, to be whole, to hold at a level; groups, weak sets, and the list of groups.
--- Document 01, "What holding means", sentence by sentence. L says which stations are linked, n is the number of stations, k the level.
+-- Rules M1 to M5 and L1 to L4 of docs/RULES.md. L says which stations are linked, n is the number of stations, k the level.
 --   Mesh L               links go both ways, and no station is linked to itself
 --   Touch L s a b        a and b are in touch in s
 --   Whole L s            all stations of s are in touch
@@ -19,38 +19,38 @@ use Rattle.stations.specs.Sets.{Set, _is-in_, _part-of_, _without_, Below, size
 abbrev pub Links : Type 0
 Links = ℕ → ℕ → Bool
 
--- "No station is linked to itself, a link stands in both rows."
+-- a link goes both ways, and never from a station to itself
 pub record Mesh (L : Links) : Type 0 where
   pub apart : (a : ℕ) → L a a ≡ false
   pub both : (a b : ℕ) → L a b ≡ true → L b a ≡ true
 
--- "Two stations of a set are in touch if a chain of links leads from one to the other with every station of the chain in the set."
+-- rule M1: a chain inside s leads from the one to the other, its ends in s too
 pub data Touch (L : Links) (s : Set) : ℕ → ℕ → Type 0 where
   here : {a : ℕ} → a is-in s → Touch L s a a
   step : {a b c : ℕ} → a is-in s → L a b ≡ true → Touch L s b c → Touch L s a c
 
--- "A set is whole if all its stations are in touch, so a set of one is whole."
+-- rule M2: any two of its stations are in touch in it. A set of one is whole (Chains: one-whole).
 abbrev pub Whole : Links → Set → Type 0
 Whole L s = (a b : ℕ) → a is-in s → b is-in s → Touch L s a b
 
--- "A set holds at k when its size is above k and, for each part of it with fewer than k stations, what remains without that part is whole."
+-- rule M3: more than k stations, and no loss p of fewer than k of them parts it
 pub record Holds (L : Links) (n k : ℕ) (s : Set) : Type 0 where
   pub below : Below n s
   pub above : k < size n s
   pub firm : (p : Set) → p part-of s → size n p < k → Whole L (s without p)
 
--- "A group at k is a set that holds at k and is not contained in a larger set that does."
+-- rule M4: it holds, and no larger set that holds has all of it
 pub record Group (L : Links) (n k : ℕ) (s : Set) : Type 0 where
   pub holds : Holds L n k s
   pub largest : (t : Set) → Holds L n k t → s part-of t → t part-of s
 
--- "A weak set, for a set of size above k, is a part of it with fewer than k stations whose removal leaves the rest not whole."
+-- rule M5: a loss of fewer than k of its stations that parts it
 pub record Weak (L : Links) (n k : ℕ) (s p : Set) : Type 0 where
   pub part : p part-of s
   pub few : size n p < k
   pub parts : ¬ Whole L (s without p)
 
--- "The weak set in a reply is the smallest; among those of equal size it is the one that comes first in the order."
+-- rule M5: the one of a reply has as few stations as any, and comes first among those of its size
 pub record WeakSet (L : Links) (n k : ℕ) (s p : Set) : Type 0 where
   pub weak : Weak L n k s p
   pub smallest : (q : Set) → Weak L n k s q → size n p ≤ size n q
@@ -62,13 +62,12 @@ pub record Groups (L : Links) (n k g : ℕ) (R : ℕ → Set) : Type 0 where
   pub all : (s : Set) → Group L n k s → (i : ℕ) × (i < g) × (s ≡ R i)
   pub differ : (i j : ℕ) → i < g → j < g → R i ≡ R j → i ≡ j
 
--- "the list names each group once, in order, and nothing else"
+-- rules L1 to L4: and they stand in order
 pub record Listed (L : Links) (n k g : ℕ) (R : ℕ → Set) : Type 0 where
   pub groups : Groups L n k g R
   pub order : (i j : ℕ) → i < j → j < g → Before (R i) (R j)
 
--- The replies to the holding question, and when each is right: "HOLDS or FEW (size k or less), each with an empty set, or WEAK with its weak
--- set. FEW goes before WEAK."
+-- The replies to the holding question, and when each is right: rules H1 to H3. A set of k stations or fewer is FEW and never WEAK.
 pub data Reply : Type 0 where
   HOLDS FEW : Reply
   WEAK : Set → Reply
@@ -78,6 +77,6 @@ Answers L n k s HOLDS = Holds L n k s
 Answers L n k s FEW = size n s ≤ k
 Answers L n k s (WEAK p) = (k < size n s) × WeakSet L n k s p
 
--- "R is 0 when n is k or less, else (n - k + 1) / 2 rounded down."
+-- rule L7: the most groups that n stations can have at k
 abbrev pub R : ℕ → ℕ → ℕ
 R n k = cond (leb n k) 0 ((n - k + 1) / 2)

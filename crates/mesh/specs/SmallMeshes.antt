@@ -1,4 +1,4 @@
--- Document 01, "Small meshes to check by hand": the lines marked P as a table of questions and replies, and what each line states. One result,
+-- The table of small meshes of docs/RULES.md (X1): its rows marked P as questions and replies, and what each states. One result,
 -- `shown` of proofs/Shown, shows them all from the definitions.
 use mathlib.Core.Path.{_≡_}
 use mathlib.Core.Bool.{Bool, true, false, _&&_, _||_}
@@ -7,7 +7,8 @@ use Prim.Native.Nat.{ℕ, zero, suc, _<_}
 use lib.Dec.{eqb, ltb}
 use lib.ListN.{length}
 use Rattle.stations.specs.Sets.{Set, none, stations}
-use Rattle.mesh.specs.Mesh.{Links, Holds, Listed, Reply, HOLDS, FEW, WEAK, Answers}
+use Rattle.mesh.specs.Mesh.{Links, Listed, HOLDS, FEW, WEAK, Answers}
+use Rattle.mesh.specs.Standing.{Standing}
 
 -- the set of the stations in a list
 unfoldable pub setOf : List ℕ → Set
@@ -30,11 +31,12 @@ rowOf (l ∷ ls) zero = setOf l
 rowOf (l ∷ ls) (suc i) = rowOf ls i
 
 -- a line of the table: n stations, the links, a level k, and the reply:
--- that of the holding question for the whole mesh (a weak set as a list of its stations), or the list of groups
+-- that of the holding question for the whole mesh (a weak set as a list of its stations), or the list of groups; or a station a and its standing v
 pub data Line : Type 0 where
   holds few : (n : ℕ) → List Link → (k : ℕ) → Line
   weak : (n : ℕ) → List Link → (k : ℕ) → List ℕ → Line
   groups : (n : ℕ) → List Link → (k : ℕ) → List (List ℕ) → Line
+  stands : (n : ℕ) → List Link → (a v : ℕ) → Line
 
 -- what a line states
 unfoldable pub Right : Line → Type 0
@@ -42,6 +44,7 @@ Right (holds n ls k) = Answers (linksOf ls) n k (stations n) HOLDS
 Right (few n ls k) = Answers (linksOf ls) n k (stations n) FEW
 Right (weak n ls k p) = Answers (linksOf ls) n k (stations n) (WEAK (setOf p))
 Right (groups n ls k gs) = Listed (linksOf ls) n k (length gs) (rowOf gs)
+Right (stands n ls a v) = Standing (linksOf ls) n a v
 
 unfoldable pub All : List Line → Type 0
 All [] = Unit {0}
@@ -82,4 +85,12 @@ table =
     weak 6 six 5 (0 ∷ 1 ∷ 2 ∷ 3 ∷ []) ∷
     -- not marked P: dividing once leaves 2, 3, 4, 5, 6 together
     groups 7 triangles 2 ((0 ∷ 1 ∷ 2 ∷ []) ∷ (2 ∷ 3 ∷ 4 ∷ []) ∷ (4 ∷ 5 ∷ 6 ∷ []) ∷ []) ∷
+    -- standings: each of the five is in a group at 2 and in none at 3, two linked stations stand at 1, and a station alone is in no group
+    stands 5 five 0 2 ∷
+    stands 5 five 1 2 ∷
+    stands 5 five 2 2 ∷
+    stands 5 five 3 2 ∷
+    stands 5 five 4 2 ∷
+    stands 2 (0 – 1 ∷ []) 0 1 ∷
+    stands 1 [] 0 0 ∷
     []

@@ -19,8 +19,7 @@ linked t v w = has (row t v) w
 abbrev pub Fits : List ℕ → Set → Type 0
 Fits t s = (j : ℕ) → j is-in s → j * 4 + 4 ≤ length t
 
--- "Stations are numbered 0 to n - 1, with n from 0 to 256." "A table is exactly 4n words, one set (a row) for each station: those it is linked to. No station is linked to itself, a link stands in both
--- rows, and bits for numbers from n up are zero."
+-- rules S1 and S5: at most 256 stations, four words a station, no station in its own row, each link in both rows, and only stations below n
 pub record Table (n : ℕ) (t : List ℕ) : Type 0 where
   pub few : n ≤ 256
   pub long : length t ≡ n * 4
@@ -28,7 +27,7 @@ pub record Table (n : ℕ) (t : List ℕ) : Type 0 where
   pub both : (a b : ℕ) → linked t a b ≡ true → linked t b a ≡ true
   pub below : (a b : ℕ) → linked t a b ≡ true → b < n
 
--- "a self link, a one-sided link or a bit from n up"
+-- what an accepted table has not: card, 4
 pub data Fault (n : ℕ) (t : List ℕ) : Type 0 where
   self-link : (a : ℕ) → a < n → linked t a a ≡ true → Fault n t
   one-sided : (a b : ℕ) → a < n → b < n → linked t a b ≡ true → linked t b a ≡ false → Fault n t

@@ -1,1 +1,1 @@
-// The meaning of document 01 stands in specs/, its laws in proofs/.
+// What holding, groups, routes and standings mean stands in specs/, their laws in proofs/.

@@ -5,3 +5,4 @@ pub mod Reading
 pub mod OnlyOne
 pub mod Named
 pub mod Longer
+pub mod Example

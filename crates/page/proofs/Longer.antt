@@ -1,4 +1,4 @@
--- The program reads up to 33,802 bytes. A longer survey "gets no further than 11" (no-further), and what is read of it has the same page (cut-same).
+-- The program reads up to 33,802 bytes. A longer survey is refused by 11 at the latest (no-further), and what is read of it has the same page (cut-same).
 use mathlib.Core.List.{List, [], _∷_}
 use mathlib.Core.Logic.{_⊎_, inl, inr}
 use mathlib.Core.Path.{_≡_, refl, sym, _∙_, ap, ap₂, subst}

@@ -11,7 +11,7 @@ use Rattle.stations.specs.Sets.{Set}
 use Rattle.mesh.specs.Mesh.{Links, Group, Listed}
 use Rattle.mesh.specs.Table.{linked}
 use Rattle.mesh.proofs.OnlyOne.{listed-one}
-use Rattle.card.proofs.Card.{first-one, refusal-one, number-above}
+use Rattle.card.proofs.Card.{first-one, none-given, refusal-one, number-above}
 use Rattle.records.specs.Survey.{Survey}
 use Rattle.survey.proofs.OneSurvey.{same-version, same-stations, same-records, same-serials, same-table}
 use Rattle.survey.proofs.OnlyOne.{rejoined}
@@ -82,6 +82,10 @@ page-one bs x y (listed {v = v} {n = n} {m = m} {h = h} {serials = s} {table = t
 
     a′ : Last (linked t′) n′ h
     a′ = subst (λ (z : List ℕ). Last (linked z) n′ h) (same-table Y Z) (subst (λ (k : ℕ). Last (linked t) k h) (same-stations Y Z) a)
+
+-- a buffer with room is never refused
+pub night-list-answers : (bs p p′ : List ℕ) (r : PageAnswer) → Prints bs p p′ r → 262144 ≤ length p → number r ≡ 0
+night-list-answers bs p p′ r x h = none-given (PAGE-ROOM (length p) ∷ []) (number r) (x .refused) (λ l. omega arith, tt)
 
 pub night-list-only-one : (bs p a b : List ℕ) (r r′ : PageAnswer) → Prints bs p a r → Prints bs p b r′ → (r ≡ r′) × (a ≡ b)
 night-list-only-one bs p a b r r′ x y = go r r′ x y (first-one (PAGE-ROOM (length p) ∷ []) (number r) (number r′) (x .refused) (y .refused))

@@ -77,7 +77,7 @@ module _ (at n : ℕ) (t serials l₀ : List ℕ) (bytes : ℕ) (A : Ready at n 
     groups : Listed (linked t) n (h + 1) g (set-at l′)
     groups = all.listed n t (h + 1) (A .table) above l rows set law l′ g f
 
-    -- "until a level has no group"
+    -- the level has no group
     pub no-more : g ≡ 0 → Last (linked t) n h
     no-more e = inr (below, λ s G. let (i, m, q) = listed .groups .all s G in absurd (omega arith))
       where

@@ -1,4 +1,4 @@
--- The night list in a lent buffer: its replies in the paper's numbers, and when each is right.
+-- The night list in a lent buffer: its replies in the numbers of the rules, and when each is right. Rule N5.
 --   number r, page-length r     the refusal's number (0 where the page is printed), the number of the page's bytes
 --   PAGE-ROOM bytes             14: the buffer is too short for some page
 --   Prints bs p p′ r            r is the reply to the survey bs, p the buffer before and p′ the buffer after
@@ -19,13 +19,13 @@ abbrev pub page-length : PageAnswer → ℕ
 page-length (Printed l) = l
 page-length (Refused r) = 0
 
--- "buffer too short for what is to be written": it goes by 262,144 bytes, which every page fits in, even where the page at hand is shorter
+-- 14 goes by 262,144 bytes, which every page fits in, even where the page at hand is shorter
 abbrev pub PAGE-ROOM : ℕ → Test
 PAGE-ROOM bytes = record { refusal = 14; fails = bytes < 262144 }
 
 pub record Prints (bs p p′ : List ℕ) (r : PageAnswer) : Type 0 where
   pub refused : FirstFailing (PAGE-ROOM (length p) ∷ []) (number r)
-  -- "all buffers keep their old content"
+  -- rule C2: a refusal leaves the buffer as it was
   pub kept : ¬ (number r ≡ 0) → p′ ≡ p
   -- the page, and nothing beyond
   pub printed : number r ≡ 0 → Page bs (take (page-length r) p′)

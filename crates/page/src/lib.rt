@@ -17,7 +17,7 @@ pub enum PageAnswer {
     Refused(Refusal),
 }
 
-// The reply in the paper's numbers.
+// The reply in the numbers of the rules.
 impl PageAnswer {
     // The refusal's number, 0 where the page is printed.
     pub fn number(self) -> u64
@@ -60,7 +60,7 @@ fn put_level(page: &mut [u8], at: usize, k: usize, serials: &[u32], list: &[u64]
     place
 }
 
-// The lines of all levels, upward from 1 until a level has no group or 16 is done.
+// The lines of all levels from 1 up, to 16 or to the first that has no group.
 fn put_levels(
     page: &mut [u8],
     at: usize,

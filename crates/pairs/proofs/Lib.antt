@@ -1,3 +1,4 @@
 pub mod Turns
 pub mod Links
 pub mod Starts
+pub mod WeakPairs

@@ -100,7 +100,7 @@ passed bs serials words o f = go (none-fails (reader-order bs serials words) (or
         record {
           accepted = record {
             few = C .few;
-            frame = record { octets = o; mark = m; version-is = C .one; stations-are = refl; records-are = refl; whole = C .whole };
+            frame = record { octets = o; mark = m; version-is = C .one; stations-are = refl; records-are = refl; whole = C .whole; few-records = C .most };
             serials-right = serials-right (stations bs) _ serial;
             pairs-right = pairs-right (stations bs) (records bs) _ _ link;
           };

@@ -1,5 +1,5 @@
--- The reader of survey files: its replies in the paper's numbers, and when each is right. Document 01, "The survey file" and "Order".
---   number r, version r, stations r, links r    what the paper calls the reply r: its refusal number (0 where the file is read), the version, n and
+-- The reader of survey files: its replies in the numbers of the rules, and when each is right. Rules F4 and F8.
+--   number r, version r, stations r, links r    of the reply r: its refusal number (0 where the file is read), the version, n and
 --                                               the number of links
 --   Reads bs serials table serials′ table′ r    r is the reply to the bytes bs, with two lent buffers before and after
 use mathlib.Core.List.{List}
@@ -16,7 +16,7 @@ abbrev pub number : ReadAnswer → ℕ
 number (Read v n m) = 0
 number (Refused r) = Rattle.card.specs.Card.number r
 
--- "The reader replies the version, n and the number of links"; "A refusal returns its number, with 0 for every count"
+-- rules F4 and C2: the version, n and the number of links; each 0 for a refusal
 abbrev pub version : ReadAnswer → ℕ
 version (Read v n m) = v
 version (Refused r) = 0
@@ -32,10 +32,10 @@ links (Refused r) = 0
 pub record Reads (bs serials table serials′ table′ : List ℕ) (r : ReadAnswer) : Type 0 where
   -- refused exactly when a test fails, by the first that does
   pub refused : FirstFailing (reader-order bs (length serials) (length table)) (number r)
-  -- "all buffers keep their old content"
+  -- rule C2: a refusal leaves both buffers as they were
   pub kept : (number r ≡ 0 → ⊥) → (serials′ ≡ serials) × (table′ ≡ table)
-  -- "The reader fills n serials and 4n table words", those of the survey that the bytes are
+  -- rule F4: the first n serials and 4n words are those of the survey that the bytes are
   pub survey : number r ≡ 0 → Survey (version r) (stations r) (links r) (take (stations r) serials′) (take (stations r * 4) table′) bs
-  -- "and nothing beyond"
+  -- and what is behind them stays
   pub serials-beyond : number r ≡ 0 → drop (stations r) serials′ ≡ drop (stations r) serials
   pub table-beyond : number r ≡ 0 → drop (stations r * 4) table′ ≡ drop (stations r * 4) table

@@ -17,7 +17,7 @@ pub enum ReadAnswer {
     Refused(Refusal),
 }
 
-// The reply in the paper's numbers.
+// The reply in the numbers of the rules.
 impl ReadAnswer {
     // The refusal's number, 0 where the file is read.
     pub fn number(self) -> u64

@@ -1,4 +1,4 @@
--- Numbers in a row of bytes, "little-endian throughout".
+-- Numbers in a row of bytes, the lowest byte first.
 --   short bs i       the 16-bit number that starts at byte i
 --   long bs i        the 32-bit number that starts at byte i
 --   Octets bs        each byte is below 256

@@ -1,4 +1,4 @@
--- THE SURVEY FILE: what bytes say which survey. Document 01, "The survey file", field by field.
+-- THE SURVEY FILE: what bytes say which survey. Rules F1 and F2, field by field.
 --   Frame v s n m bs               what every version shares: the mark, the version v, n stations of s bytes each, m records of 4 bytes, and no byte more
 --   Serials n f                    the serials f 0 .. f (n - 1) are right
 --   Pairs n m a b                  the links (a 0, b 0) .. (a (m - 1), b (m - 1)) are right
@@ -9,14 +9,14 @@ use mathlib.Core.Bool.{true, _&&_}
 use mathlib.Core.List.{List}
 use mathlib.Core.Logic.{_⊎_}
 use mathlib.Core.Path.{_≡_}
-use Prim.Native.Nat.{ℕ, suc, _+_, _*_, _/_, _%_, _<_}
+use Prim.Native.Nat.{ℕ, suc, _+_, _*_, _/_, _%_, _<_, _≤_}
 use lib.Dec.{ltb}
 use lib.ListN.{length, getD}
 use Rattle.stations.specs.Sets.{Set, size}
 use Rattle.mesh.specs.Table.{linked, Table}
 use Rattle.records.specs.Bytes.{short, long, Octets, Words}
 
--- "the mark RLM"
+-- the letters R, L, M
 abbrev pub Mark : List ℕ → Type 0
 Mark bs = (getD bs 0 0 ≡ 82) × (getD bs 1 0 ≡ 76) × (getD bs 2 0 ≡ 77)
 
@@ -35,8 +35,10 @@ pub record Frame (v s n m : ℕ) (bs : List ℕ) : Type 0 where
   pub version-is : version bs ≡ v
   pub stations-are : stations bs ≡ n
   pub records-are : records bs ≡ m
-  -- "Length is exactly 9 + 4n + 4m"
+  -- rule F2: not a byte more or less
   pub whole : length bs ≡ 9 + n * s + m * 4
+  -- the most records that a file has
+  pub few-records : m ≤ 8192
 
 -- the serial of station i, where a station has s bytes
 abbrev pub serial : ℕ → List ℕ → ℕ → ℕ
@@ -49,16 +51,16 @@ low s n bs j = short bs (9 + n * s + j * 4)
 abbrev pub high : ℕ → ℕ → List ℕ → ℕ → ℕ
 high s n bs j = short bs (9 + n * s + j * 4 + 2)
 
--- "serial numbers, none 0, strictly rising"
+-- above 0, and each above the one before
 pub record Serials (n : ℕ) (f : ℕ → ℕ) : Type 0 where
   pub some : (i : ℕ) → i < n → 0 < f i
   pub rising : (i : ℕ) → suc i < n → f i < f (suc i)
 
--- the pair (a′, b′) comes after (a, b): "by a, then b"
+-- the pair (a′, b′) comes after (a, b): a decides, and b where the two have the same a
 abbrev pub After : ℕ → ℕ → ℕ → ℕ → Type 0
 After a b a′ b′ = (a < a′) ⊎ ((a ≡ a′) × (b < b′))
 
--- "links: two 16-bit station numbers a, b with a < b < n; pairs strictly rising by a, then b"
+-- the two stations of a link in their order, both of this mesh; and each link after the one before
 pub record Pairs (n m : ℕ) (a b : ℕ → ℕ) : Type 0 where
   pub apart : (j : ℕ) → j < m → a j < b j
   pub below : (j : ℕ) → j < m → b j < n

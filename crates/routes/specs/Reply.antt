@@ -1,6 +1,6 @@
--- The routes question: its replies in the paper's numbers, and when each is right. Document 01, "Routes and standings" and "Order".
---   number r, joined r, count r     what the paper calls the reply r: its refusal number (0 where answered), "joined", its count
---   order n t a b                   "Routes: 2, 3, 4, 7"
+-- The routes question: its replies in the numbers of the rules, and when each is right. Rules R1 to R4.
+--   number r, joined r, count r     of the reply r: its refusal number (0 where answered), whether it says that the two are linked, its count
+--   order n t a b                   2, 3, 4, 7
 --   Replies n t a b r               r is the reply to the question about stations a and b of the table t of n stations
 use mathlib.Core.Bool.{Bool, true, false}
 use mathlib.Core.List.{List, [], _∷_}
@@ -23,7 +23,7 @@ joined (Counted c) = false
 joined Joined = true
 joined (Refused r) = false
 
--- "A refusal returns its number, with 0 for every count"; "For a linked pair the reply is joined, count 0"
+-- rules R3 and C2: 0 for a linked pair and for a refusal
 abbrev pub count : Answer → ℕ
 count (Counted c) = c
 count Joined = 0
@@ -35,10 +35,9 @@ order n t a b = STATIONS n ∷ TABLE-LENGTH n t ∷ TABLE n t ∷ PAIR n a b ∷
 pub record Replies (n : ℕ) (t : List ℕ) (a b : ℕ) (r : Answer) : Type 0 where
   -- refused exactly when a test fails, by the first that does
   pub refused : FirstFailing (order n t a b) (number r)
-  -- "joined" exactly for a linked pair
+  -- rule R3: joined exactly for a linked pair
   pub linked-pair : number r ≡ 0 → joined r ≡ linked t a b
-  -- "For two different stations without a link, the routes question gives the greatest number of chains between them that share no station but the
-  -- two ends."
+  -- rule R1: for a pair without a link, the greatest number of separate routes
   pub most : number r ≡ 0 → linked t a b ≡ false → Most (linked t) (stations n) a b (count r)
-  -- "By Menger's theorem this equals the smallest number of other stations whose loss parts them."
+  -- rule R2: and the smallest loss of other stations that parts the two
   pub least : number r ≡ 0 → linked t a b ≡ false → Least (linked t) n (stations n) a b (count r)

@@ -14,7 +14,7 @@ pub enum Answer {
     Refused(Refusal),
 }
 
-// The reply in the paper's numbers.
+// The reply in the numbers of the rules.
 impl Answer {
     // The refusal's number, 0 where answered.
     pub fn number(self) -> u64
@@ -71,8 +71,8 @@ fn ask(n: usize, table: &[u64], a: usize, b: usize) -> Answer
         return Answer::Joined;
     }
     let found = flow::between(table, StationSet::first_n(n), a, b, 256);
-    let c = up_to(found, 256);
-    Answer::Counted(c)
+    let most = up_to(found, 256);
+    Answer::Counted(most)
 }
 
 // The routes question. Refusals in the order 2, 3, 4, 7.

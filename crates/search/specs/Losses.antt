@@ -27,7 +27,8 @@ pub record WeakLoss (L : Links) (n : ℕ) (may : Set) (k : ℕ) (p S : Set) : Ty
   pub loss : Loss n may k p S
   pub parts : ¬ Whole L (p without S)
 
--- "A weak pair is two stations of a piece, without a link, that have fewer than k routes within the piece": here with the loss that parts them
+-- a weak pair of rule H5 with the loss that parts it: two stations that are not linked, with fewer than k routes inside p, exactly
+-- (pairs, WeakPairs: weak-pair-exactly)
 pub record WeakPair (L : Links) (n : ℕ) (may : Set) (k : ℕ) (p : Set) (u v : ℕ) (S : Set) : Type 0 where
   pub loss : Loss n may k p S
   pub one : u is-in p without S

@@ -1,6 +1,6 @@
--- Standings: the replies in the paper's numbers, and when each is right. Document 01, "Routes and standings".
+-- Standings: the replies in the numbers of the rules, and when each is right. Rules T1 to T3.
 --   number r, level r              the refusal's number (0 where answered), the standing
---   station-order, pair-order      "Standings: 2, 3, 4, 7, 15"
+--   station-order, pair-order      2, 3, 4, 7, 15
 --   Replies ts P r                 r is refused by the first failing test of ts, or its standing v has P v
 use mathlib.Core.List.{List, [], _∷_}
 use mathlib.Core.Path.{_≡_}

@@ -36,9 +36,8 @@ pub record Order (s t : Set) (r : Bool) : Type 0 where
   pub before : r ≡ true → Before s t
   pub after : r ≡ false → Before s t → ⊥
 
--- "The order question takes two lent rows and hands back the caller's own row that comes first, as a part of the slice it came from. Equal rows
--- give the first; if either row hasn't four words, an empty part of the first comes back in place of a refusal number."
--- x, y and r are references: where r is said to be x or y, it is the caller's own, and the empty part begins where x does.
+-- The order question, rules O1 to O3. x, y and r are references: where r is said to be x or y, it is the caller's own slice, and a part with no word
+-- begins where x does.
 pub record FirstRow (x y r : RefT (List ℕ)) : Type 0 where
   pub short : (length (now x) ≡ 4 → length (now y) ≡ 4 → ⊥) → (now r ≡ []) × (ptr r ≡ ptr x)
   pub second : length (now x) ≡ 4 → length (now y) ≡ 4 → Before (has (now y)) (has (now x)) → r ≡ y

@@ -32,7 +32,7 @@ Below n s = (x : ℕ) → x is-in s → x < n
 abbrev pub none : Set
 none x = false
 
--- "Stations are numbered 0 to n - 1."
+-- rule S1: the stations of a mesh of n
 abbrev pub stations : ℕ → Set
 stations n x = ltb x n
 
@@ -55,12 +55,12 @@ abbrev pub one-if : Bool → ℕ
 one-if true = 1
 one-if false = 0
 
--- "The size of a set is its count of stations."
+-- rule S3: how many stations below n the set has
 unfoldable pub size : ℕ → Set → ℕ
 size zero s = 0
 size (suc n) s = one-if (s n) + size n s
 
--- "Order of two different sets: take the smallest station that is in one and not the other; the set that has it comes first."
+-- rule M6: `at` is the smallest station in which the two differ, and s has it
 pub record Before (s t : Set) : Type 0 where
   pub at : ℕ
   pub mine : at is-in s

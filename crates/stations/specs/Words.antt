@@ -15,7 +15,7 @@ use Rattle.stations.specs.declared.StationSet.{StationSet}
 unfoldable pub bit : ℕ → ℕ → Bool
 bit w k = eqb (w / 2 ^ k % 2) 1
 
--- "A set is four 64-bit words. Station j is bit j mod 64 of word j / 64 (rounded down)."
+-- rule S2: 64 stations to a word, the lowest bit for the lowest
 unfoldable pub has : List ℕ → Set
 has ws j = bit (getD ws (j / 64) 0) (j % 64)
 

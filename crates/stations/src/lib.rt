@@ -258,7 +258,7 @@ impl StationSet {
     }
 }
 
-// The row that comes first, as a part of the slice that it came from.
+// The order question: the caller's own row that comes first (rules O1 to O3).
 pub fn first_row<'a>(x: &'a [u64], y: &'a [u64]) -> &'a [u64]
     ensures { λ r. ⌜ FirstRow (x .entry) (y .entry) r ⌝ }
 {

@@ -1,20 +1,19 @@
 -- An island, a wave at a time. Kept: what is reached is in touch with the start, and a reached station that is not in the front
 -- has all its links of the set reached (Grown). A wave is what the front is linked to in the set and has not been reached. Where
--- it is empty, what is reached is closed under links, so it is the island. Where links go both ways, a set is whole exactly if
--- the island of one of its stations is all of it.
+-- it is empty, what is reached is closed under links, so it is the island.
 use mathlib.Core.Bool.{Bool, true, false, _||_}
 use mathlib.Core.Logic.{_⊎_, inl, inr, ⊎-elim}
 use mathlib.Core.Path.{_≡_, refl, sym, ap, _∙_, subst}
 use Prim.Native.Nat.{ℕ, _<_}
 use native.Mathlib.Omega.{arith}
 use Rattle.stations.specs.Sets.{Set, _is-in_, _not-in_, _part-of_, only, _without_, _cut_, _joined_, size}
-use Rattle.stations.specs.Answers.{Least, Sameness}
+use Rattle.stations.specs.Answers.{Least}
 use Rattle.stations.proofs.Bools.{test, never, or-cases, or-left, or-right, or-off}
 use Rattle.stations.proofs.Members.{in-without, of-without, in-cut, of-cut, in-less, only-is, is-only}
 use Rattle.stations.proofs.Counting.{size-sub, size-minus-one}
-use Rattle.mesh.specs.Mesh.{Links, Mesh, Touch, here, Whole}
-use Rattle.mesh.proofs.Chains.{touch-start, touch-end, touch-join, touch-link, touch-back, closed-touch}
-use Rattle.touch.specs.Reach.{Island, Spread, Wholeness}
+use Rattle.mesh.specs.Mesh.{Links, Touch, here}
+use Rattle.mesh.proofs.Chains.{touch-start, touch-end, touch-link, closed-touch}
+use Rattle.touch.specs.Reach.{Island, Spread}
 
 -- r is reached from a inside s, p is the front
 pub record Grown (L : Links) (s : Set) (a : ℕ) (r p : Set) : Type 0 where
@@ -93,21 +92,3 @@ wave-end L s a r p u n g f ln z = grown-all L s a r n (wave-more L s a r p u n r
     or-none : (b : Bool) → b ≡ (b || false)
     or-none true = refl
     or-none false = refl
-
--- ---- whole: r is the island of the station a of s, and t says whether it is all of s
-pub whole-all : (L : Links) (s r : Set) (a : ℕ) (t : Bool) → a is-in s → Island L s a r → Sameness r s t → Wholeness L s t
-whole-all L s r a t h i e = record { whole = whole; parted = parted }
-  where
-    whole : t ≡ true → Mesh L → Whole L s
-    whole q m x y hx hy = touch-join (touch-back m (i .only x (e .same q x ∙ hx))) (i .only y (e .same q y ∙ hy))
-
-    parted : t ≡ false → ¬ Whole L s
-    parted q w = e .other q (λ x. by x (test (s x)) (test (r x)))
-      where
-        by : (x : ℕ) → (s x ≡ true) ⊎ (s x ≡ false) → (r x ≡ true) ⊎ (r x ≡ false) → r x ≡ s x
-        by x (inl p) _ = i .all x (w a x h p) ∙ sym p
-        by x (inr p) (inl q) = never (s x) (touch-end (i .only x q)) p
-        by x (inr p) (inr q) = q ∙ sym p
-
-pub whole-none : (L : Links) (s : Set) → ((x : ℕ) → x not-in s) → Wholeness L s true
-whole-none L s z = record { whole = λ _ _ x y h. never (s x) h (z x); parted = λ e. never true refl e }

@@ -1,9 +1,9 @@
-// The island of a station inside a set, and whether a set is whole.
+// The island of a station inside a set.
 ghost use mathlib.Core.Path.{_≡_};
 ghost use Prim.Native.Nat.{ℕ, _≤_};
 ghost use Rattle.stations.specs.Words.{members};
 ghost use Rattle.mesh.specs.Table.{linked, Fits};
-ghost use Rattle.touch.specs.Reach.{Island, Wholeness, RowsOf, Spread, FitsWord};
+ghost use Rattle.touch.specs.Reach.{Island, RowsOf, Spread, FitsWord};
 use stations::Found;
 use stations::StationSet;
 
@@ -57,17 +57,5 @@ pub fn island(table: &[u64], within: StationSet, start: usize) -> StationSet
                 return reached;
             }
         }
-    }
-}
-
-// Is the set whole? An empty set is.
-pub fn whole(table: &[u64], s: StationSet) -> bool
-    requires { ⌜ Fits (now table) (members s) ⌝ }
-    ensures { λ r. ⌜ Wholeness (linked (now (table .entry))) (members s) r ⌝ }
-{
-    let f = s.first();
-    match f {
-        Found::At(start) => island(table, s, start).same(s),
-        Found::Nothing => true,
     }
 }

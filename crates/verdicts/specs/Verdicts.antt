@@ -3,7 +3,7 @@
 --   SmallestWeak t p s     s is a weak set of p as small as any
 --   FirstWeak t p s r      r is the weak set of p, where s is one as small as any
 --   JudgedOf L k s         the verdict alone, with some loss
---   reply                  the reply of the holding question, as document 01 has it
+--   reply                  the reply of the holding question, as mesh/specs has it
 use mathlib.Core.List.{List}
 use Prim.Native.Nat.{ℕ, _+_, _<_}
 use Rattle.stations.specs.Sets.{Set, _is-in_, _not-in_, _part-of_, size}

@@ -133,11 +133,11 @@ module _ {n : ℕ} {t : List ℕ} (bs : List ℕ) (T : Table n t) (laid : Laid (
           → After (low 4 n bs j) (high 4 n bs j) (low 4 n bs (suc j)) (high 4 n bs (suc j))
       rise j l (x, h, i, e, p, q) (y, h′, i′, e′, p′, q′) = rw (p, q, p′, q′) (after x y (rank-back x y h i′ (omega arith) (decLt x y)))
 
-  pub survey-put : {serials b₀ : List ℕ} (m : ℕ) → m ≡ link-count n t → length serials ≡ n → Serials n (λ i. getD serials i 0) → Words t → Octets bs → HeadPut n m b₀ bs
+  pub survey-put : {serials b₀ : List ℕ} (m : ℕ) → link-count n t ≤ 8192 → m ≡ link-count n t → length serials ≡ n → Serials n (λ i. getD serials i 0) → Words t → Octets bs → HeadPut n m b₀ bs
       → length bs ≡ 9 + n * 4 + m * 4 → ((i : ℕ) → i < n → serial 4 bs i ≡ getD serials i 0) → Survey 1 n (link-count n t) serials t bs
-  survey-put {serials} m c long S w o H whole each = record {
+  survey-put {serials} m most c long S w o H whole each = record {
     one = refl;
-    frame = record { octets = o; mark = H .mark; version-is = H .one; stations-are = H .stations-are; records-are = H .records-are ∙ c; whole = whole ∙ ap (λ (k : ℕ). 9 + n * 4 + k * 4) c };
+    frame = record { octets = o; mark = H .mark; version-is = H .one; stations-are = H .stations-are; records-are = H .records-are ∙ c; whole = whole ∙ ap (λ (k : ℕ). 9 + n * 4 + k * 4) c; few-records = most };
     all-serials = long;
     serial-is = each;
     serials-right = record {

@@ -12,7 +12,7 @@ pub enum WriteAnswer {
     Refused(Refusal),
 }
 
-// The reply in the paper's numbers.
+// The reply in the numbers of the rules.
 impl WriteAnswer {
     // The refusal's number, 0 where the file is written.
     pub fn number(self) -> u64

@@ -112,7 +112,7 @@ returns c =
     let F = c .before .before .put-file .ensures in
     written-reply (n (e .before)) (serials (e .before)) (table (e .before)) (bytes (e .before)) _ (whole e) (first (e .before)) (F .head .whole ∙ long e)
     (ap (λ (k : ℕ). 9 + n (e .before) * 4 + k * 4) (counted e))
-    (survey-put _ (P .table) (F .links-are) (m e) (counted e) (P .all-serials) (P .serials-good) (e .count-links .ensures .2)
+    (survey-put _ (P .table) (F .links-are) (m e) (P .most) (counted e) (P .all-serials) (P .serials-good) (e .count-links .ensures .2)
     (front-below 256 (lit< tt) (c .before .before .put-file .last .1 .1 .1 .1 .0) (drop (whole e) (bytes (e .before))) (λ i. c .slice-known2 .given i .fits)) (F .head) (F .head .whole ∙ long e) (F .serials-are))
 
 returns-2 : tie.Need-returns-2
