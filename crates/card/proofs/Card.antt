@@ -11,11 +11,11 @@ use lib.ListN.{length}
 use borrow.Author.Tests.{le-leb, lt-leb}
 use Rattle.mesh.specs.Mesh.{R}
 use Rattle.stations.proofs.Bools.{never}
-use Rattle.mesh.specs.Table.{linked, Table, Fault, self-link, one-sided, from-n-up}
-use Rattle.mesh.proofs.NeverMore.{never-more}
+use Rattle.mesh.specs.Table.{linked, Table, Fault, self_link, one_sided, from_n_up}
+use Rattle.mesh.proofs.NeverMore.{never_more}
 use Rattle.card.specs.declared.Refusal.{Refusal}
 use Rattle.card.specs.declared.Refusal.TheVariants.{Level, Stations, TableLength, ListRoom, Set, Station, Mark, Version, Count, Length, Serial, Link, Room, Rows}
-use Rattle.card.specs.Card.{number, Test, FirstFailing, earlier, LEVEL, table-order, ROWS}
+use Rattle.card.specs.Card.{number, Test, FirstFailing, earlier, LEVEL, table_order, ROWS}
 use Rattle.card.proofs.TableTest.{accepted}
 
 -- two numbers that are both that of the first failing test are the same
@@ -35,18 +35,18 @@ abbrev pub Passes : List Test → Type 0
 Passes [] = Unit {0}
 Passes (t ∷ ts) = (¬ t.fails) × Passes ts
 
-pub none-fails : (ts : List Test) → Numbered ts → FirstFailing ts 0 → Passes ts
-none-fails [] m p = tt
-none-fails (t ∷ ts) m (inl p) = absurd (omega (arith, m.0, p.1))
-none-fails (t ∷ ts) m (inr p) = (p.0, none-fails ts m.1 p.1)
+pub none_fails : (ts : List Test) → Numbered ts → FirstFailing ts 0 → Passes ts
+none_fails [] m p = tt
+none_fails (t ∷ ts) m (inl p) = absurd (omega (arith, m.0, p.1))
+none_fails (t ∷ ts) m (inr p) = (p.0, none_fails ts m.1 p.1)
 
 pub passes_none : (ts : List Test) → Passes ts → FirstFailing ts 0
 passes_none [] p = refl
 passes_none (t ∷ ts) p = inr (p.0, passes_none ts p.1)
 
 -- where every test passes, no number but 0 is given
-pub none-given : (ts : List Test) (r : ℕ) → FirstFailing ts r → Passes ts → r ≡ 0
-none-given ts r f p = first_one ts r 0 f (passes_none ts p)
+pub none_given : (ts : List Test) (r : ℕ) → FirstFailing ts r → Passes ts → r ≡ 0
+none_given ts r f p = first_one ts r 0 f (passes_none ts p)
 
 -- first these tests, then those
 pub first_then : (ts us : List Test) (a b : ℕ) → Numbered ts → FirstFailing ts a → FirstFailing us b → FirstFailing (ts ++ us) (earlier a b)
@@ -56,88 +56,88 @@ first_then (t ∷ ts) us (suc a) b m (inl p) q = inl p
 first_then (t ∷ ts) us a b m (inr p) q = inr (p.0, first_then ts us a b m.1 p.1 q)
 
 -- a refusal has a number above 0
-pub number-first : (r : Refusal) (b : ℕ) → earlier (number r) b ≡ number r
-number-first Level b = refl
-number-first Stations b = refl
-number-first TableLength b = refl
-number-first Refusal.Table b = refl
-number-first ListRoom b = refl
-number-first Set b = refl
-number-first Station b = refl
-number-first Mark b = refl
-number-first Version b = refl
-number-first Count b = refl
-number-first Length b = refl
-number-first Serial b = refl
-number-first Link b = refl
-number-first Room b = refl
-number-first Rows b = refl
+pub number_first : (r : Refusal) (b : ℕ) → earlier (number r) b ≡ number r
+number_first Level b = refl
+number_first Stations b = refl
+number_first TableLength b = refl
+number_first Refusal.Table b = refl
+number_first ListRoom b = refl
+number_first Set b = refl
+number_first Station b = refl
+number_first Mark b = refl
+number_first Version b = refl
+number_first Count b = refl
+number_first Length b = refl
+number_first Serial b = refl
+number_first Link b = refl
+number_first Room b = refl
+number_first Rows b = refl
 
 -- the refusal of a number, and so a number of the card is that of one refusal only
-refusal-of : ℕ → Refusal
-refusal-of n =
+refusal_of : ℕ → Refusal
+refusal_of n =
     cond (eqb n 1) Level (cond (eqb n 2) Stations (cond (eqb n 3) TableLength (cond (eqb n 4) Refusal.Table (cond (eqb n 5) ListRoom (cond (eqb n 6) Set (cond (eqb n 7) Station (cond (eqb n 8) Mark (cond (eqb n 9) Version (cond (eqb n 10) Count (cond (eqb n 11) Length (cond (eqb n 12) Serial (cond (eqb n 13) Link (cond (eqb n 14) Room Rows)))))))))))))
 
-refusal-back : (r : Refusal) → refusal-of (number r) ≡ r
-unfolding refusal-of
-refusal-back Level = refl
-refusal-back Stations = refl
-refusal-back TableLength = refl
-refusal-back Refusal.Table = refl
-refusal-back ListRoom = refl
-refusal-back Set = refl
-refusal-back Station = refl
-refusal-back Mark = refl
-refusal-back Version = refl
-refusal-back Count = refl
-refusal-back Length = refl
-refusal-back Serial = refl
-refusal-back Link = refl
-refusal-back Room = refl
-refusal-back Rows = refl
+refusal_back : (r : Refusal) → refusal_of (number r) ≡ r
+unfolding refusal_of
+refusal_back Level = refl
+refusal_back Stations = refl
+refusal_back TableLength = refl
+refusal_back Refusal.Table = refl
+refusal_back ListRoom = refl
+refusal_back Set = refl
+refusal_back Station = refl
+refusal_back Mark = refl
+refusal_back Version = refl
+refusal_back Count = refl
+refusal_back Length = refl
+refusal_back Serial = refl
+refusal_back Link = refl
+refusal_back Room = refl
+refusal_back Rows = refl
 
-pub refusal-one : (r r' : Refusal) → number r ≡ number r' → r ≡ r'
-refusal-one r r' e = sym (refusal-back r) ∙ ap refusal-of e ∙ refusal-back r'
+pub refusal_one : (r r' : Refusal) → number r ≡ number r' → r ≡ r'
+refusal_one r r' e = sym (refusal_back r) ∙ ap refusal_of e ∙ refusal_back r'
 
 -- a refusal's number is above 0
-pub number-above : (r : Refusal) → number r ≡ 0 → ⊥
-number-above r e = omega (arith, sym (number-first r 1), ap (λ (a : ℕ). earlier a 1) e)
+pub number_above : (r : Refusal) → number r ≡ 0 → ⊥
+number_above r e = omega (arith, sym (number_first r 1), ap (λ (a : ℕ). earlier a 1) e)
 
 -- the tests of a table are numbered, and a table that passes them is an accepted one
-pub table-numbered : (n : ℕ) (t : List ℕ) → Numbered (table-order n t)
-table-numbered n t = (omega arith, (omega arith, (omega arith, tt)))
+pub table_numbered : (n : ℕ) (t : List ℕ) → Numbered (table_order n t)
+table_numbered n t = (omega arith, (omega arith, (omega arith, tt)))
 
 -- a question of its own tests us after the table's: none fails, so the table is accepted and each of us passed
-pub table-passed : (n : ℕ) (t : List ℕ) (us : List Test) → Numbered us → FirstFailing (table-order n t ++ us) 0 → Table n t × Passes us
-table-passed n t us m f = go (none-fails (table-order n t ++ us) (omega arith, (omega arith, (omega arith, m))) f)
+pub table_passed : (n : ℕ) (t : List ℕ) (us : List Test) → Numbered us → FirstFailing (table_order n t ++ us) 0 → Table n t × Passes us
+table_passed n t us m f = go (none_fails (table_order n t ++ us) (omega arith, (omega arith, (omega arith, m))) f)
   where
     long : ¬ ¬ (length t ≡ n * 4) → Dec (length t ≡ n * 4) → length t ≡ n * 4
     long h (yes e) = e
     long h (no d) = absurd (h d)
 
-    go : Passes (table-order n t ++ us) → Table n t × Passes us
+    go : Passes (table_order n t ++ us) → Table n t × Passes us
     go (few, (h, (fault, rest))) = (accepted n t (omega arith) (long h (ℕ_discrete (length t) (n * 4))) fault, rest)
 
 -- and an accepted table passes them; a level from 1 to 16 passes its test
-pub table-passes : (n : ℕ) (t : List ℕ) (us : List Test) → Table n t → Passes us → Passes (table-order n t ++ us)
-table-passes n t us T p = (λ x. omega (arith, T.few), (λ x. x T.long, (faultless, p)))
+pub table_passes : (n : ℕ) (t : List ℕ) (us : List Test) → Table n t → Passes us → Passes (table_order n t ++ us)
+table_passes n t us T p = (λ x. omega (arith, T.few), (λ x. x T.long, (faultless, p)))
   where
     faultless : ¬ Fault n t
-    faultless (self-link a l e) = never (linked t a a) e (T.apart a)
-    faultless (one-sided a b l m e o) = never (linked t b a) (T.both a b e) o
-    faultless (from-n-up a b l g e) = omega (arith, T.below a b e)
+    faultless (self_link a l e) = never (linked t a a) e (T.apart a)
+    faultless (one_sided a b l m e o) = never (linked t b a) (T.both a b e) o
+    faultless (from_n_up a b l g e) = omega (arith, T.below a b e)
 
-pub level-passes : (k : ℕ) → 1 ≤ k → k ≤ 16 → ¬ (LEVEL k).fails
-level-passes k a b (inl x) = omega arith
-level-passes k a b (inr x) = omega arith
+pub level_passes : (k : ℕ) → 1 ≤ k → k ≤ 16 → ¬ (LEVEL k).fails
+level_passes k a b (inl x) = omega arith
+level_passes k a b (inr x) = omega arith
 
 -- ---- the rows of a list
 pub no_rows : (n k : ℕ) → n ≤ k → 0 ≡ R n k
 no_rows n k l = rw (le-leb n k l)
 
-pub some-rows : (n k : ℕ) → k < n → (n - k) / 2 + (n - k) % 2 ≡ R n k
-some-rows n k l = rw (lt-leb n k l) (omega arith)
+pub some_rows : (n k : ℕ) → k < n → (n - k) / 2 + (n - k) % 2 ≡ R n k
+some_rows n k l = rw (lt-leb n k l) (omega arith)
 
 -- ---- 15 is never given
 pub rows_pass : (n : ℕ) (t : List ℕ) (k : ℕ) → ¬ (ROWS n t k).fails
-rows_pass n t k (Ps, d, l) = omega (arith, never-more (linked t) n k Ps d)
+rows_pass n t k (Ps, d, l) = omega (arith, never_more (linked t) n k Ps d)

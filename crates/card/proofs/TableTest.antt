@@ -12,65 +12,65 @@ use lib.Dec.{eqb, ltb}
 use lib.ListN.{length, get_or, get_or-eq_default}
 use borrow.Author.Tests.{eq-eqb, ne_eqb, ltb-true, ltb-false, le-ltb, not-false}
 use Rattle.stations.specs.Words.{bit, has, row}
-use Rattle.stations.proofs.Bools.{test, never, not-true, not_so, and_left, and_right, and-off}
+use Rattle.stations.proofs.Bools.{test, never, not_true, not_so, and_left, and_right, and_off}
 use Rattle.stations.proofs.Counting.{any_below}
 use Rattle.stations.proofs.Bit.{bit_test, bit-none}
-use Rattle.stations.proofs.Laws.{row_word, has-small, has-beyond, by-words, of_word}
-use Rattle.stations.proofs.Walk.{Walk, walk-begin, walk_end, walk-next, walk-past}
-use Rattle.mesh.specs.Table.{linked, Fits, Table, Fault, self-link, one-sided, from-n-up}
+use Rattle.stations.proofs.Laws.{row_word, has_small, has_beyond, by_words, of_word}
+use Rattle.stations.proofs.Walk.{Walk, walk_begin, walk_end, walk_next, walk_past}
+use Rattle.mesh.specs.Table.{linked, Fits, Table, Fault, self_link, one_sided, from_n_up}
 use Rattle.card.specs.Tests.{Mirrored, MirroredRow, RowFault}
 use Rattle.card.specs.Card.{Says, FirstFailing, SET}
 use Rattle.mesh.specs.Mesh.{Mesh}
 
 -- ---- the code's reading of one bit of the table
-pub linked-yes : (t : List ℕ) (v i : ℕ) → i < 256 → bit_and (get_or t (v * 4 + i / 64) 0 / 2 ^ (i % 64)) 1 ≡ 1 → linked t v i ≡ true
-linked-yes t v i h e = row_word t v i h ∙ sym (bit_test (get_or t (v * 4 + i / 64) 0) (i % 64)) ∙ eq-eqb (bit_and (get_or t (v * 4 + i / 64) 0 / 2 ^ (i % 64)) 1) 1 e
+pub linked_yes : (t : List ℕ) (v i : ℕ) → i < 256 → bit_and (get_or t (v * 4 + i / 64) 0 / 2 ^ (i % 64)) 1 ≡ 1 → linked t v i ≡ true
+linked_yes t v i h e = row_word t v i h ∙ sym (bit_test (get_or t (v * 4 + i / 64) 0) (i % 64)) ∙ eq-eqb (bit_and (get_or t (v * 4 + i / 64) 0 / 2 ^ (i % 64)) 1) 1 e
 
-pub linked-no : (t : List ℕ) (v i : ℕ) → i < 256 → (bit_and (get_or t (v * 4 + i / 64) 0 / 2 ^ (i % 64)) 1 ≡ 1 → ⊥) → linked t v i ≡ false
-linked-no t v i h e = row_word t v i h ∙ sym (bit_test (get_or t (v * 4 + i / 64) 0) (i % 64)) ∙ ne_eqb (bit_and (get_or t (v * 4 + i / 64) 0 / 2 ^ (i % 64)) 1) 1 e
+pub linked_no : (t : List ℕ) (v i : ℕ) → i < 256 → (bit_and (get_or t (v * 4 + i / 64) 0 / 2 ^ (i % 64)) 1 ≡ 1 → ⊥) → linked t v i ≡ false
+linked_no t v i h e = row_word t v i h ∙ sym (bit_test (get_or t (v * 4 + i / 64) 0) (i % 64)) ∙ ne_eqb (bit_and (get_or t (v * 4 + i / 64) 0 / 2 ^ (i % 64)) 1) 1 e
 
 -- ---- the walk over a word of the row i: the stations past have i in their rows
 pub record Mirroring (t : List ℕ) (i base w x : ℕ) : Type 0 where
   pub walk : Walk w x
   pub past : (j : ℕ) → j < 64 → bit w j ≡ true → bit x j ≡ false → linked t (base + j) i ≡ true
 
-pub mirroring-none : (t : List ℕ) (i base w : ℕ) → w < 2 ^ 64 → Mirroring t i base w w
-mirroring-none t i base w h = record { walk = walk-begin w h; past = λ j l e f. never (bit w j) e f }
+pub mirroring_none : (t : List ℕ) (i base w : ℕ) → w < 2 ^ 64 → Mirroring t i base w w
+mirroring_none t i base w h = record { walk = walk_begin w h; past = λ j l e f. never (bit w j) e f }
 
-pub mirroring-more : {t : List ℕ} {i base w x : ℕ} → Mirroring t i base w x → (x ≡ 0 → ⊥) → linked t (base + count_trailing_zeros 64 x) i ≡ true
+pub mirroring_more : {t : List ℕ} {i base w x : ℕ} → Mirroring t i base w x → (x ≡ 0 → ⊥) → linked t (base + count_trailing_zeros 64 x) i ≡ true
     → Mirroring t i base w (bit_and x (x - 1))
-mirroring-more {t} {i} {base} {w} {x} g z e = record {
-  walk = walk-next g.walk z;
-  past = λ j l b f. elim (walk-past g.walk z j f) [ inl p ↦ g.past j l b p | inr q ↦ rw q e ];
+mirroring_more {t} {i} {base} {w} {x} g z e = record {
+  walk = walk_next g.walk z;
+  past = λ j l b f. elim (walk_past g.walk z j f) [ inl p ↦ g.past j l b p | inr q ↦ rw q e ];
 }
 
-pub mirrored-all : {t : List ℕ} {i base w x : ℕ} → Mirroring t i base w x → x ≡ 0 → Mirrored t i base w true
-mirrored-all {t} {i} {base} {w} {x} g z = record { each = λ _ j l b. g.past j l b (walk_end x j z); one = λ e. never true refl e }
+pub mirrored_all : {t : List ℕ} {i base w x : ℕ} → Mirroring t i base w x → x ≡ 0 → Mirrored t i base w true
+mirrored_all {t} {i} {base} {w} {x} g z = record { each = λ _ j l b. g.past j l b (walk_end x j z); one = λ e. never true refl e }
 
-pub mirrored-one : {t : List ℕ} {i base w : ℕ} (j : ℕ) → j < 64 → bit w j ≡ true → linked t (base + j) i ≡ false → Mirrored t i base w false
-mirrored-one j l b f = record { each = λ e. never false e refl; one = λ _. (j, l, b, f) }
+pub mirrored_one : {t : List ℕ} {i base w : ℕ} (j : ℕ) → j < 64 → bit w j ≡ true → linked t (base + j) i ≡ false → Mirrored t i base w false
+mirrored_one j l b f = record { each = λ e. never false e refl; one = λ _. (j, l, b, f) }
 
 -- ---- the four words of a row
-pub mirrored-not : {t : List ℕ} {i base w : ℕ} {r : Bool} → Mirrored t i base w r → r ≡ false → (ws : List ℕ) (q : ℕ) → get_or ws q 0 ≡ w → base ≡ q * 64
+pub mirrored_not : {t : List ℕ} {i base w : ℕ} {r : Bool} → Mirrored t i base w r → r ≡ false → (ws : List ℕ) (q : ℕ) → get_or ws q 0 ≡ w → base ≡ q * 64
     → MirroredRow t i (has ws) false
-mirrored-not {t} {i} {base} {w} m e ws q f g =
+mirrored_not {t} {i} {base} {w} m e ws q f g =
     let (j, l, b, o) = m.one e in
     record { each = λ h. never false h refl; one = λ _. (base + j, of_word ws q base j g l (rw f b), o) }
 
-pub mirrored-four : {t : List ℕ} {i a b c d : ℕ} {p q s r : Bool} → Mirrored t i 0 a p → p ≡ true → Mirrored t i 64 b q → q ≡ true → Mirrored t i 128 c s → s ≡ true
+pub mirrored_four : {t : List ℕ} {i a b c d : ℕ} {p q s r : Bool} → Mirrored t i 0 a p → p ≡ true → Mirrored t i 64 b q → q ≡ true → Mirrored t i 128 c s → s ≡ true
     → Mirrored t i 192 d r → MirroredRow t i (has (a ∷ b ∷ c ∷ d ∷ [])) r
-mirrored-four {t} {i} {a} {b} {c} {d} ma ea mb eb mc ec md = record {
-  each = λ e. by-words a b c d (λ x. linked t x i ≡ true) (ma.each ea) (mb.each eb) (mc.each ec) (md.each e);
+mirrored_four {t} {i} {a} {b} {c} {d} ma ea mb eb mc ec md = record {
+  each = λ e. by_words a b c d (λ x. linked t x i ≡ true) (ma.each ea) (mb.each eb) (mc.each ec) (md.each e);
   one = λ e. let (j, l, h, o) = md.one e in (192 + j, of_word (a ∷ b ∷ c ∷ d ∷ []) 3 192 j refl l h, o);
 }
 
 -- ---- a row, and all rows
-pub row-self : (n : ℕ) (t : List ℕ) (a : ℕ) → linked t a a ≡ true → Says (RowFault n t a) true
-row-self n t a e = record { yes-so = λ _. inl e; not_so = λ f. never true refl f }
+pub row_self : (n : ℕ) (t : List ℕ) (a : ℕ) → linked t a a ≡ true → Says (RowFault n t a) true
+row_self n t a e = record { yes_so = λ _. inl e; not_so = λ f. never true refl f }
 
 -- the row without the stations below n is not empty
-pub row-high : (n : ℕ) (t : List ℕ) (a : ℕ) → (((x : ℕ) → (linked t a x && not (ltb x n)) ≡ false) → ⊥) → Says (RowFault n t a) true
-row-high n t a h = record { yes-so = λ _. inr (go (any_below Q dec 256)); not_so = λ f. never true refl f }
+pub row_high : (n : ℕ) (t : List ℕ) (a : ℕ) → (((x : ℕ) → (linked t a x && not (ltb x n)) ≡ false) → ⊥) → Says (RowFault n t a) true
+row_high n t a h = record { yes_so = λ _. inr (go (any_below Q dec 256)); not_so = λ f. never true refl f }
   where
     Q : ℕ → Type 0
     Q x = (linked t a x && not (ltb x n)) ≡ true
@@ -79,15 +79,15 @@ row-high n t a h = record { yes-so = λ _. inr (go (any_below Q dec 256)); not_s
     dec x = Bool-discrete (linked t a x && not (ltb x n)) true
 
     high : (x : ℕ) → Q x → (linked t a x ≡ true) × (n ≤ x)
-    high x e = (and_left (linked t a x) (not (ltb x n)) e, ltb-false x n (not-true (ltb x n) (and_right (linked t a x) (not (ltb x n)) e)))
+    high x e = (and_left (linked t a x) (not (ltb x n)) e, ltb-false x n (not_true (ltb x n) (and_right (linked t a x) (not (ltb x n)) e)))
 
     go : Dec ((x : ℕ) × (x < 256) × Q x) → (b : ℕ) × (linked t a b ≡ true) × ((n ≤ b) ⊎ (linked t b a ≡ false))
     go (yes (x, l, e)) = (x, (high x e).0, inl (high x e).1)
-    go (no o) = absurd (h (λ x. not_so (linked t a x && not (ltb x n)) (λ e. o (x, has-small (row t a) x refl (high x e).0, e))))
+    go (no o) = absurd (h (λ x. not_so (linked t a x && not (ltb x n)) (λ e. o (x, has_small (row t a) x refl (high x e).0, e))))
 
 pub row_told : (n : ℕ) (t : List ℕ) (a : ℕ) (r : Bool) → linked t a a ≡ false → ((x : ℕ) → (linked t a x && not (ltb x n)) ≡ false) → MirroredRow t a (has (row t a)) r
     → Says (RowFault n t a) (not r)
-row_told n t a r s z m = record { yes-so = λ e. inr (go (m.one (not-true r e))); not_so = λ e f. bad (not-false r e) f }
+row_told n t a r s z m = record { yes_so = λ e. inr (go (m.one (not_true r e))); not_so = λ e f. bad (not-false r e) f }
   where
     go : (b : ℕ) × (linked t a b ≡ true) × (linked t b a ≡ false) → (b : ℕ) × (linked t a b ≡ true) × ((n ≤ b) ⊎ (linked t b a ≡ false))
     go (b, l, o) = (b, l, inr o)
@@ -97,19 +97,19 @@ row_told n t a r s z m = record { yes-so = λ e. inr (go (m.one (not-true r e)))
     bad e (inr (b, l, inl g)) = never (linked t a b && not (ltb b n)) (rw (l, le-ltb b n g)) (z b)
     bad e (inr (b, l, inr o)) = never (linked t b a) (m.each e b l) o
 
-pub fault-of : (n : ℕ) (t : List ℕ) (a : ℕ) → a < n → RowFault n t a → Fault n t
-fault-of n t a l (inl e) = self-link a l e
-fault-of n t a l (inr (b, e, inl g)) = from-n-up a b l g e
-fault-of n t a l (inr (b, e, inr o)) = go (dec_lt b n)
+pub fault_of : (n : ℕ) (t : List ℕ) (a : ℕ) → a < n → RowFault n t a → Fault n t
+fault_of n t a l (inl e) = self_link a l e
+fault_of n t a l (inr (b, e, inl g)) = from_n_up a b l g e
+fault_of n t a l (inr (b, e, inr o)) = go (dec_lt b n)
   where
     go : Dec (b < n) → Fault n t
-    go (yes m) = one-sided a b l m e o
-    go (no m) = from-n-up a b l (omega arith) e
+    go (yes m) = one_sided a b l m e o
+    go (no m) = from_n_up a b l (omega arith) e
 
-pub no-fault : (n : ℕ) (t : List ℕ) → ((a : ℕ) → a < n → ¬ RowFault n t a) → ¬ Fault n t
-no-fault n t h (self-link a l e) = h a l (inl e)
-no-fault n t h (one-sided a b l m e o) = h a l (inr (b, e, inr o))
-no-fault n t h (from-n-up a b l g e) = h a l (inr (b, e, inl g))
+pub no_fault : (n : ℕ) (t : List ℕ) → ((a : ℕ) → a < n → ¬ RowFault n t a) → ¬ Fault n t
+no_fault n t h (self_link a l e) = h a l (inl e)
+no_fault n t h (one_sided a b l m e o) = h a l (inr (b, e, inr o))
+no_fault n t h (from_n_up a b l g e) = h a l (inr (b, e, inl g))
 
 -- ---- an accepted table
 past_row : (n : ℕ) (t : List ℕ) (a b : ℕ) → length t ≡ n * 4 → n ≤ a → linked t a b ≡ false
@@ -117,7 +117,7 @@ past_row n t a b e l = go (dec_lt b 256)
   where
     go : Dec (b < 256) → linked t a b ≡ false
     go (yes h) = row_word t a b h ∙ ap (λ (x : ℕ). bit x (b % 64)) (get_or-eq_default t 0 {n = a * 4 + b / 64} (omega arith)) ∙ bit-none (b % 64)
-    go (no h) = has-beyond (row t a) b refl (omega arith)
+    go (no h) = has_beyond (row t a) b refl (omega arith)
 
 -- a table that passed the tests 2, 3 and 4 is an accepted table
 pub accepted : (n : ℕ) (t : List ℕ) → n ≤ 256 → length t ≡ n * 4 → ¬ Fault n t → Table n t
@@ -135,36 +135,36 @@ accepted n t f e h = record { few = f; long = e; apart = λ a. self a (test (lin
       where
         go : Dec (b < n) → b < n
         go (yes m) = m
-        go (no m) = absurd (h (from-n-up a b (row_of a b l) (omega arith) l))
+        go (no m) = absurd (h (from_n_up a b (row_of a b l) (omega arith) l))
 
     self : (a : ℕ) → (linked t a a ≡ true) ⊎ (linked t a a ≡ false) → linked t a a ≡ false
-    self a (inl l) = absurd (h (self-link a (row_of a a l) l))
+    self a (inl l) = absurd (h (self_link a (row_of a a l) l))
     self a (inr o) = o
 
     back : (a b : ℕ) → linked t a b ≡ true → (linked t b a ≡ true) ⊎ (linked t b a ≡ false) → linked t b a ≡ true
     back a b l (inl m) = m
-    back a b l (inr o) = absurd (h (one-sided a b (row_of a b l) (below a b l) l o))
+    back a b l (inr o) = absurd (h (one_sided a b (row_of a b l) (below a b l) l o))
 
 -- and its links are a mesh
-pub table-mesh : {n : ℕ} {t : List ℕ} → Table n t → Mesh (linked t)
-table-mesh T = record { apart = T.apart; both = T.both }
+pub table_mesh : {n : ℕ} {t : List ℕ} → Table n t → Mesh (linked t)
+table_mesh T = record { apart = T.apart; both = T.both }
 
 -- a row with no station from n up: each of its stations has a row
 pub row_fits : (n : ℕ) (t : List ℕ) (a : ℕ) → length t ≡ n * 4 → ((x : ℕ) → (linked t a x && not (ltb x n)) ≡ false) → Fits t (linked t a)
-row_fits n t a e z x h = omega (arith, ltb-true x n (not-false (ltb x n) (and-off (linked t a x) (not (ltb x n)) (z x) h)))
+row_fits n t a e z x h = omega (arith, ltb-true x n (not-false (ltb x n) (and_off (linked t a x) (not (ltb x n)) (z x) h)))
 
 -- ---- a lent set
-module _ (n : ℕ) (s : List ℕ) (four-words : length s ≡ 4) where
+module _ (n : ℕ) (s : List ℕ) (four_words : length s ≡ 4) where
   -- with n at 256 or more there is no bit from n up
-  pub set-large : 256 ≤ n → FirstFailing (SET n s ∷ []) 0
-  set-large l = inr (λ f. elim f [ inl o ↦ o four-words | inr (j, m, h) ↦ omega (arith, has-small s j four-words h) ], refl)
+  pub set_large : 256 ≤ n → FirstFailing (SET n s ∷ []) 0
+  set_large l = inr (λ f. elim f [ inl o ↦ o four_words | inr (j, m, h) ↦ omega (arith, has_small s j four_words h) ], refl)
 
   -- the set without the stations below n is empty, or not
-  pub set-low : ((x : ℕ) → (has s x && not (ltb x n)) ≡ false) → FirstFailing (SET n s ∷ []) 0
-  set-low z = inr (λ f. elim f [ inl o ↦ o four-words | inr (j, m, h) ↦ never (has s j && not (ltb j n)) (rw (h, le-ltb j n m)) (z j) ], refl)
+  pub set_low : ((x : ℕ) → (has s x && not (ltb x n)) ≡ false) → FirstFailing (SET n s ∷ []) 0
+  set_low z = inr (λ f. elim f [ inl o ↦ o four_words | inr (j, m, h) ↦ never (has s j && not (ltb j n)) (rw (h, le-ltb j n m)) (z j) ], refl)
 
-  pub set-high : (((x : ℕ) → (has s x && not (ltb x n)) ≡ false) → ⊥) → FirstFailing (SET n s ∷ []) 6
-  set-high h = inl (inr (go (any_below Q dec 256)), refl)
+  pub set_high : (((x : ℕ) → (has s x && not (ltb x n)) ≡ false) → ⊥) → FirstFailing (SET n s ∷ []) 6
+  set_high h = inl (inr (go (any_below Q dec 256)), refl)
     where
       Q : ℕ → Type 0
       Q x = (has s x && not (ltb x n)) ≡ true
@@ -173,5 +173,5 @@ module _ (n : ℕ) (s : List ℕ) (four-words : length s ≡ 4) where
       dec x = Bool-discrete (has s x && not (ltb x n)) true
 
       go : Dec ((x : ℕ) × (x < 256) × Q x) → (j : ℕ) × (n ≤ j) × (has s j ≡ true)
-      go (yes (x, l, e)) = (x, ltb-false x n (not-true (ltb x n) (and_right (has s x) (not (ltb x n)) e)), and_left (has s x) (not (ltb x n)) e)
-      go (no o) = absurd (h (λ x. not_so (has s x && not (ltb x n)) (λ e. o (x, has-small s x four-words (and_left (has s x) (not (ltb x n)) e), e))))
+      go (yes (x, l, e)) = (x, ltb-false x n (not_true (ltb x n) (and_right (has s x) (not (ltb x n)) e)), and_left (has s x) (not (ltb x n)) e)
+      go (no o) = absurd (h (λ x. not_so (has s x && not (ltb x n)) (λ e. o (x, has_small s x four_words (and_left (has s x) (not (ltb x n)) e), e))))

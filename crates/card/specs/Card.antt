@@ -5,7 +5,7 @@
 --   LEVEL k, STATIONS n, ..   the lines of the card
 use Rattle.std.specs.Prelude.{Bool, true, false, List, [], ◌∷◌, ◌⊎◌, ◌≡◌, ℕ, zero, suc, ◌*◌, ◌<◌, ◌≤◌, length}
 use Rattle.stations.specs.Sets as sets
-use Rattle.stations.specs.Sets.{◌is-in◌}
+use Rattle.stations.specs.Sets.{◌is_in◌}
 use Rattle.stations.specs.Words.{has}
 use Rattle.mesh.specs.Mesh.{R}
 use Rattle.mesh.specs.Dividing.{Dividing, needed}
@@ -53,7 +53,7 @@ earlier (suc a) b = suc a
 
 -- r says whether P
 pub record Says (P : Type 0) (r : Bool) : Type 0 where
-  pub yes-so : r ≡ true → P
+  pub yes_so : r ≡ true → P
   pub not_so : r ≡ false → ¬ P
 
 -- 1: no level from 1 to 16
@@ -65,20 +65,20 @@ abbrev pub STATIONS : ℕ → Test
 STATIONS n = record { refusal = 2; fails = 256 < n }
 
 -- 3: not four words a station
-abbrev pub TABLE-LENGTH : ℕ → List ℕ → Test
-TABLE-LENGTH n t = record { refusal = 3; fails = ¬ (length t ≡ n * 4) }
+abbrev pub TABLE_LENGTH : ℕ → List ℕ → Test
+TABLE_LENGTH n t = record { refusal = 3; fails = ¬ (length t ≡ n * 4) }
 
 -- 4: the table has a fault
 abbrev pub TABLE : ℕ → List ℕ → Test
 TABLE n t = record { refusal = 4; fails = Fault n t }
 
 -- 5: no room for R rows; R goes by n and k, and not by how many groups there are (rule L9)
-abbrev pub LIST-ROOM : ℕ → ℕ → ℕ → Test
-LIST-ROOM n k words = record { refusal = 5; fails = words < R n k * 4 }
+abbrev pub LIST_ROOM : ℕ → ℕ → ℕ → Test
+LIST_ROOM n k words = record { refusal = 5; fails = words < R n k * 4 }
 
 -- 6: no set of stations of this mesh
 abbrev pub SET : ℕ → List ℕ → Test
-SET n s = record { refusal = 6; fails = (¬ (length s ≡ 4)) ⊎ ((j : ℕ) × (n ≤ j) × (j is-in has s)) }
+SET n s = record { refusal = 6; fails = (¬ (length s ≡ 4)) ⊎ ((j : ℕ) × (n ≤ j) × (j is_in has s)) }
 
 -- 7: no station of this mesh
 abbrev pub STATION : ℕ → ℕ → Test
@@ -93,5 +93,5 @@ abbrev pub ROWS : ℕ → List ℕ → ℕ → Test
 ROWS n t k = record { refusal = 15; fails = (Ps : List sets.Set) × Dividing (linked t) n k Ps × (R n k < needed n k Ps) }
 
 -- every order begins with 2, 3, 4
-abbrev pub table-order : ℕ → List ℕ → List Test
-table-order n t = STATIONS n ∷ TABLE-LENGTH n t ∷ TABLE n t ∷ []
+abbrev pub table_order : ℕ → List ℕ → List Test
+table_order n t = STATIONS n ∷ TABLE_LENGTH n t ∷ TABLE n t ∷ []

@@ -1,6 +1,6 @@
 -- What the steps of the table test say.
 use Rattle.std.specs.Prelude.{Bool, true, false, List, ◌⊎◌, ◌≡◌, ℕ, ◌+◌, ◌<◌, ◌≤◌}
-use Rattle.stations.specs.Sets.{Set, ◌is-in◌}
+use Rattle.stations.specs.Sets.{Set, ◌is_in◌}
 use Rattle.stations.specs.Words.{bit}
 use Rattle.mesh.specs.Table.{linked}
 
@@ -11,8 +11,8 @@ pub record Mirrored (t : List ℕ) (i base w : ℕ) (r : Bool) : Type 0 where
 
 -- each station of the row has station i in its own row, or one has not
 pub record MirroredRow (t : List ℕ) (i : ℕ) (row : Set) (r : Bool) : Type 0 where
-  pub each : r ≡ true → (b : ℕ) → b is-in row → linked t b i ≡ true
-  pub one : r ≡ false → (b : ℕ) × (b is-in row) × (linked t b i ≡ false)
+  pub each : r ≡ true → (b : ℕ) → b is_in row → linked t b i ≡ true
+  pub one : r ≡ false → (b : ℕ) × (b is_in row) × (linked t b i ≡ false)
 
 -- the row a has a self link, or a station that is from n up or does not have a in its own row
 abbrev pub RowFault : ℕ → List ℕ → ℕ → Type 0

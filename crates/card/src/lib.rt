@@ -3,7 +3,7 @@ ghost use Rattle.std.specs.Prelude.{[], ◌∷◌, true, ◌≡◌, ℕ, ◌+◌
 ghost use Rattle.stations.specs.Words.{bit, members};
 ghost use Rattle.mesh.specs.Mesh.{R};
 ghost use Rattle.mesh.specs.Table.{Fits, Fault};
-ghost use Rattle.card.specs.Card.{number, verdict, earlier, FirstFailing, Says, LEVEL, LIST-ROOM, SET, STATION, PAIR, table-order};
+ghost use Rattle.card.specs.Card.{number, verdict, earlier, FirstFailing, Says, LEVEL, LIST_ROOM, SET, STATION, PAIR, table_order};
 ghost use Rattle.card.specs.Tests.{Mirrored, MirroredRow, RowFault};
 
 use stations::StationSet;
@@ -100,7 +100,7 @@ pub fn rows(n: usize, k: usize) -> usize
 
 // 5: a list of `words` words has room for R rows.
 pub fn test_list_room(n: usize, k: usize, words: usize) -> Tested
-    ensures { FirstFailing (LIST-ROOM n k words ∷ []) (verdict result) }
+    ensures { FirstFailing (LIST_ROOM n k words ∷ []) (verdict result) }
 {
     if words / 4 < rows(n, k) {
         return Tested::Failed(Refusal::ListRoom);
@@ -214,7 +214,7 @@ fn table_fails(table: &[u64], n: usize) -> bool
 
 // 2, 3, 4: at most 256 stations, 4n words, and no fault. No product with n is made before n is tested, and no word is read before the length is.
 pub fn test_table(n: usize, table: &[u64]) -> Tested
-    ensures { FirstFailing (table-order n table.now) (verdict result) }
+    ensures { FirstFailing (table_order n table.now) (verdict result) }
 {
     if 256 < n {
         return Tested::Failed(Refusal::Stations);

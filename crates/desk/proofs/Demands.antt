@@ -7,11 +7,11 @@ use mathlib.Core.Path.{◌≡◌, refl, sym, ◌∙◌, ap, subst}
 use Prim.Native.Nat.{ℕ}
 use lib.Dec.{lit<}
 use lib.ListN.{length}
-use Rattle.stations.specs.Sets.{Set, none, one-if}
+use Rattle.stations.specs.Sets.{Set, none, one_if}
 use Rattle.stations.specs.Words.{has}
-use Rattle.stations.proofs.Laws.{Wide, wide-four, none-four, members-same}
+use Rattle.stations.proofs.Laws.{Wide, wide_four, none_four, members_same}
 use Rattle.card.specs.Card.{Test, FirstFailing}
-use Rattle.records.specs.Lines.{reader-order, writer-order}
+use Rattle.records.specs.Lines.{reader_order, writer_order}
 use Rattle.routes.specs.declared.Answer as routed
 use Rattle.routes.specs.declared.Answer.TheVariants as routed-as
 use Rattle.routes.specs.Reply as routes
@@ -42,44 +42,44 @@ refuses : {Left : Type 0} (order : List Test) (r number : ℕ) → r ≡ number 
 refuses order r number e f left = record { first = subst (FirstFailing order) (sym e) f; left = λ d. left (λ z. d (e ∙ z)) }
 
 -- 2, 3, 4, 7
-pub routes-refuses : (n : ℕ) (t : List ℕ) (a b r joined count : ℕ) → RoutesDesk n t a b r joined count → Refuses (routes.order n t a b) r ((joined ≡ 0) × (count ≡ 0))
-routes-refuses n t a b r joined count p =
-    refuses (routes.order n t a b) r (routes.number p.answer) p.number p.replies.refused (λ d. let (x, y) = left p.answer d in (p.linked-pair ∙ x, p.counted ∙ y))
+pub routes_refuses : (n : ℕ) (t : List ℕ) (a b r joined count : ℕ) → RoutesDesk n t a b r joined count → Refuses (routes.order n t a b) r ((joined ≡ 0) × (count ≡ 0))
+routes_refuses n t a b r joined count p =
+    refuses (routes.order n t a b) r (routes.number p.answer) p.number p.replies.refused (λ d. let (x, y) = left p.answer d in (p.linked_pair ∙ x, p.counted ∙ y))
   where
-    left : (x : routed.Answer) → ¬ (routes.number x ≡ 0) → (one-if (routes.joined x) ≡ 0) × (routes.count x ≡ 0)
+    left : (x : routed.Answer) → ¬ (routes.number x ≡ 0) → (one_if (routes.joined x) ≡ 0) × (routes.count x ≡ 0)
     left (routed-as.Counted c) d = absurd (d refl)
     left routed-as.Joined d = absurd (d refl)
     left (routed-as.Refused x) d = (refl, refl)
 
 -- 2, 3, 4, 1, 6; the four words are words of 64 bits (Wide), which their type says
-pub holding-refuses : (n : ℕ) (t : List ℕ) (k : ℕ) (s : List ℕ) (r verdict w0 w1 w2 w3 : ℕ) → HoldingDesk n t k s r verdict w0 w1 w2 w3 → Wide (w0 ∷ w1 ∷ w2 ∷ w3 ∷ [])
+pub holding_refuses : (n : ℕ) (t : List ℕ) (k : ℕ) (s : List ℕ) (r verdict w0 w1 w2 w3 : ℕ) → HoldingDesk n t k s r verdict w0 w1 w2 w3 → Wide (w0 ∷ w1 ∷ w2 ∷ w3 ∷ [])
     → Refuses (holding.order n t k s) r ((verdict ≡ 0) × (◌≡◌ {A = List ℕ} (w0 ∷ w1 ∷ w2 ∷ w3 ∷ []) (0 ∷ 0 ∷ 0 ∷ 0 ∷ [])))
-holding-refuses n t k s r verdict w0 w1 w2 w3 p wide =
+holding_refuses n t k s r verdict w0 w1 w2 w3 p wide =
     refuses (holding.order n t k s) r (holding.number p.answer) p.number p.replies.refused (λ d. let (x, y) = left p.answer d in (p.told ∙ x, words (λ j. p.weak j ∙ ap (λ (z : Set). z j) y)))
   where
-    left : (x : held.Answer) → ¬ (holding.number x ≡ 0) → (holding.verdict x ≡ 0) × (holding.weak-set x ≡ none)
+    left : (x : held.Answer) → ¬ (holding.number x ≡ 0) → (holding.verdict x ≡ 0) × (holding.weak_set x ≡ none)
     left held-as.Holds d = absurd (d refl)
     left held-as.Few d = absurd (d refl)
     left (held-as.Weak x) d = absurd (d refl)
     left (held-as.Refused x) d = (refl, refl)
 
     words : ((j : ℕ) → has (w0 ∷ w1 ∷ w2 ∷ w3 ∷ []) j ≡ false) → ◌≡◌ {A = List ℕ} (w0 ∷ w1 ∷ w2 ∷ w3 ∷ []) (0 ∷ 0 ∷ 0 ∷ 0 ∷ [])
-    words z = members-same (w0 ∷ w1 ∷ w2 ∷ w3 ∷ []) (0 ∷ 0 ∷ 0 ∷ 0 ∷ []) refl refl wide (wide-four 0 0 0 0 (lit< tt) (lit< tt) (lit< tt) (lit< tt)) (λ j. z j ∙ sym (none-four 0 0 0 0 refl refl refl refl j))
+    words z = members_same (w0 ∷ w1 ∷ w2 ∷ w3 ∷ []) (0 ∷ 0 ∷ 0 ∷ 0 ∷ []) refl refl wide (wide_four 0 0 0 0 (lit< tt) (lit< tt) (lit< tt) (lit< tt)) (λ j. z j ∙ sym (none_four 0 0 0 0 refl refl refl refl j))
 
 -- the verdict alone: 2, 3, 4, 1, 6
-pub verdict-refuses : (n : ℕ) (t : List ℕ) (k : ℕ) (s : List ℕ) (r verdict : ℕ) → VerdictDesk n t k s r verdict → Refuses (holding.order n t k s) r (verdict ≡ 0)
-verdict-refuses n t k s r verdict p =
-    refuses (holding.order n t k s) r (holding.brief-number p.brief) p.number p.replies.refused (λ d. p.told ∙ left p.brief d)
+pub verdict_refuses : (n : ℕ) (t : List ℕ) (k : ℕ) (s : List ℕ) (r verdict : ℕ) → VerdictDesk n t k s r verdict → Refuses (holding.order n t k s) r (verdict ≡ 0)
+verdict_refuses n t k s r verdict p =
+    refuses (holding.order n t k s) r (holding.brief_number p.brief) p.number p.replies.refused (λ d. p.told ∙ left p.brief d)
   where
-    left : (x : briefly.Brief) → ¬ (holding.brief-number x ≡ 0) → holding.brief-verdict x ≡ 0
+    left : (x : briefly.Brief) → ¬ (holding.brief_number x ≡ 0) → holding.brief_verdict x ≡ 0
     left briefly-as.Holds d = absurd (d refl)
     left briefly-as.Few d = absurd (d refl)
     left briefly-as.Weak d = absurd (d refl)
     left (briefly-as.Refused x) d = refl
 
 -- 2, 3, 4, 1, 5, 15: the list stays
-pub list-refuses : (n : ℕ) (t : List ℕ) (k : ℕ) (l l' : List ℕ) (r count : ℕ) → ListDesk n t k l l' r count → Refuses (groups.order n t k (length l)) r ((count ≡ 0) × (l' ≡ l))
-list-refuses n t k l l' r count p =
+pub list_refuses : (n : ℕ) (t : List ℕ) (k : ℕ) (l l' : List ℕ) (r count : ℕ) → ListDesk n t k l l' r count → Refuses (groups.order n t k (length l)) r ((count ≡ 0) × (l' ≡ l))
+list_refuses n t k l l' r count p =
     refuses (groups.order n t k (length l)) r (groups.number p.answer) p.number p.replies.refused (λ d. (p.counted ∙ left p.answer d, p.replies.kept d))
   where
     left : (x : grouped.Answer) → ¬ (groups.number x ≡ 0) → groups.count x ≡ 0
@@ -87,44 +87,44 @@ list-refuses n t k l l' r count p =
     left (grouped-as.Refused x) d = refl
 
 -- 2, 3, 4, 7, 15
-stood-left : (x : stood.Answer) → ¬ (standings.number x ≡ 0) → standings.level x ≡ 0
-stood-left (stood-as.Stands v) d = absurd (d refl)
-stood-left (stood-as.Refused x) d = refl
+stood_left : (x : stood.Answer) → ¬ (standings.number x ≡ 0) → standings.level x ≡ 0
+stood_left (stood-as.Stands v) d = absurd (d refl)
+stood_left (stood-as.Refused x) d = refl
 
-pub station-refuses : (n : ℕ) (t : List ℕ) (a r standing : ℕ) → StationDesk n t a r standing → Refuses (standings.station-order n t a) r (standing ≡ 0)
-station-refuses n t a r standing p =
-    refuses (standings.station-order n t a) r (standings.number p.answer) p.number p.replies.refused (λ d. p.stands ∙ stood-left p.answer d)
+pub station_refuses : (n : ℕ) (t : List ℕ) (a r standing : ℕ) → StationDesk n t a r standing → Refuses (standings.station_order n t a) r (standing ≡ 0)
+station_refuses n t a r standing p =
+    refuses (standings.station_order n t a) r (standings.number p.answer) p.number p.replies.refused (λ d. p.stands ∙ stood_left p.answer d)
 
-pub pair-refuses : (n : ℕ) (t : List ℕ) (a b r standing : ℕ) → PairDesk n t a b r standing → Refuses (standings.pair-order n t a b) r (standing ≡ 0)
-pair-refuses n t a b r standing p =
-    refuses (standings.pair-order n t a b) r (standings.number p.answer) p.number p.replies.refused (λ d. p.stands ∙ stood-left p.answer d)
+pub pair_refuses : (n : ℕ) (t : List ℕ) (a b r standing : ℕ) → PairDesk n t a b r standing → Refuses (standings.pair_order n t a b) r (standing ≡ 0)
+pair_refuses n t a b r standing p =
+    refuses (standings.pair_order n t a b) r (standings.number p.answer) p.number p.replies.refused (λ d. p.stands ∙ stood_left p.answer d)
 
 -- 8, 9, 10, 11, 14, 12, 13: serials and table stay
-pub read-refuses : (bs serials table serials' table' : List ℕ) (r version n links : ℕ) → ReadDesk bs serials table serials' table' r version n links
-    → Refuses (reader-order bs (length serials) (length table)) r ((version ≡ 0) × (n ≡ 0) × (links ≡ 0) × (serials' ≡ serials) × (table' ≡ table))
-read-refuses bs serials table serials' table' r version n links p =
-    refuses (reader-order bs (length serials) (length table)) r (reader.number p.answer) p.number p.replies.refused
-    (λ d. let (x, y, z) = left p.answer d in (p.of-version ∙ x, p.of-stations ∙ y, p.of-links ∙ z, (p.replies.kept d).0, (p.replies.kept d).1))
+pub read_refuses : (bs serials table serials' table' : List ℕ) (r version n links : ℕ) → ReadDesk bs serials table serials' table' r version n links
+    → Refuses (reader_order bs (length serials) (length table)) r ((version ≡ 0) × (n ≡ 0) × (links ≡ 0) × (serials' ≡ serials) × (table' ≡ table))
+read_refuses bs serials table serials' table' r version n links p =
+    refuses (reader_order bs (length serials) (length table)) r (reader.number p.answer) p.number p.replies.refused
+    (λ d. let (x, y, z) = left p.answer d in (p.of_version ∙ x, p.of_stations ∙ y, p.of_links ∙ z, (p.replies.kept d).0, (p.replies.kept d).1))
   where
     left : (x : ReadAnswer) → ¬ (reader.number x ≡ 0) → (reader.version x ≡ 0) × (reader.stations x ≡ 0) × (reader.links x ≡ 0)
     left (read_as.Read v n m) d = absurd (d refl)
     left (read_as.Refused x) d = (refl, refl, refl)
 
 -- 2, 3, 4, 12, 10, 14: the buffer stays
-pub write-refuses : (n : ℕ) (serials table bs bs' : List ℕ) (r count : ℕ) → WriteDesk n serials table bs bs' r count
-    → Refuses (writer-order n serials table (length bs)) r ((count ≡ 0) × (bs' ≡ bs))
-write-refuses n serials table bs bs' r count p =
-    refuses (writer-order n serials table (length bs)) r (writer.number p.answer) p.number p.replies.refused (λ d. (p.of_length ∙ left p.answer d, p.replies.kept d))
+pub write_refuses : (n : ℕ) (serials table bs bs' : List ℕ) (r count : ℕ) → WriteDesk n serials table bs bs' r count
+    → Refuses (writer_order n serials table (length bs)) r ((count ≡ 0) × (bs' ≡ bs))
+write_refuses n serials table bs bs' r count p =
+    refuses (writer_order n serials table (length bs)) r (writer.number p.answer) p.number p.replies.refused (λ d. (p.of_length ∙ left p.answer d, p.replies.kept d))
   where
-    left : (x : WriteAnswer) → ¬ (writer.number x ≡ 0) → writer.file-length x ≡ 0
+    left : (x : WriteAnswer) → ¬ (writer.number x ≡ 0) → writer.file_length x ≡ 0
     left (written_as.Written l) d = absurd (d refl)
     left (written_as.Refused x) d = refl
 
 -- 14, for a buffer of fewer than 262,144 bytes: the buffer stays
-pub page-refuses : (bs p p' : List ℕ) (r count : ℕ) → PageDesk bs p p' r count → Refuses (page.PAGE-ROOM (length p) ∷ []) r ((count ≡ 0) × (p' ≡ p))
-page-refuses bs p p' r count x =
-    refuses (page.PAGE-ROOM (length p) ∷ []) r (page.number x.answer) x.number x.replies.refused (λ d. (x.of_length ∙ left x.answer d, x.replies.kept d))
+pub page_refuses : (bs p p' : List ℕ) (r count : ℕ) → PageDesk bs p p' r count → Refuses (page.PAGE_ROOM (length p) ∷ []) r ((count ≡ 0) × (p' ≡ p))
+page_refuses bs p p' r count x =
+    refuses (page.PAGE_ROOM (length p) ∷ []) r (page.number x.answer) x.number x.replies.refused (λ d. (x.of_length ∙ left x.answer d, x.replies.kept d))
   where
-    left : (y : PageAnswer) → ¬ (page.number y ≡ 0) → page.page-length y ≡ 0
+    left : (y : PageAnswer) → ¬ (page.number y ≡ 0) → page.page_length y ≡ 0
     left (printed-as.Printed l) d = absurd (d refl)
     left (printed-as.Refused y) d = refl

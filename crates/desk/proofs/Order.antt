@@ -1,4 +1,4 @@
--- The order question in numbers: no word of the first row (short-desk), all of the first (first-desk), all of the second (second-desk).
+-- The order question in numbers: no word of the first row (short_desk), all of the first (first_desk), all of the second (second_desk).
 use mathlib.Core.List.{List}
 use mathlib.Core.Path.{◌≡◌, refl, sym, ap}
 use Prim.Native.Nat.{ℕ}
@@ -8,7 +8,7 @@ use lib.ListN.{length}
 use lib.Seq.{take_all}
 use Rattle.stations.specs.Sets.{Before}
 use Rattle.stations.specs.Words.{has}
-use Rattle.stations.proofs.Replies.{short_row, row_first, row-second}
+use Rattle.stations.proofs.Replies.{short_row, row_first, row_second}
 use Rattle.desk.specs.Desk.{beginning, FirstRowDesk}
 
 -- four words of a row of four are all of it
@@ -16,8 +16,8 @@ whole : (x : MutBor (List ℕ)) → length x.now ≡ 4 → x ≡ beginning 4 x
 whole x e = ap (at_last x) (sym (take_all 4 x.now (omega arith)))
 
 module _ (x y : MutBor (List ℕ)) where
-  pub short-desk : (length x.now ≡ 4 → length y.now ≡ 4 → ⊥) → FirstRowDesk x y 0 0
-  short-desk h = record {
+  pub short_desk : (length x.now ≡ 4 → length y.now ≡ 4 → ⊥) → FirstRowDesk x y 0 0
+  short_desk h = record {
     answer = beginning 0 x;
     replies = short_row x y (beginning 0 x) h refl refl;
     part = refl;
@@ -27,8 +27,8 @@ module _ (x y : MutBor (List ℕ)) where
   }
 
   module _ (p : length x.now ≡ 4) (q : length y.now ≡ 4) where
-    pub first-desk : (Before (has y.now) (has x.now) → ⊥) → FirstRowDesk x y 0 4
-    first-desk h = record {
+    pub first_desk : (Before (has y.now) (has x.now) → ⊥) → FirstRowDesk x y 0 4
+    first_desk h = record {
       answer = x;
       replies = row_first x y p q h;
       part = whole x p;
@@ -37,10 +37,10 @@ module _ (x y : MutBor (List ℕ)) where
       first = λ _. refl;
     }
 
-    pub second-desk : Before (has y.now) (has x.now) → FirstRowDesk x y 1 4
-    second-desk b = record {
+    pub second_desk : Before (has y.now) (has x.now) → FirstRowDesk x y 1 4
+    second_desk b = record {
       answer = y;
-      replies = row-second x y p q b;
+      replies = row_second x y p q b;
       part = whole y q;
       counted = sym q;
       second = λ _ _ _. refl;

@@ -1,7 +1,7 @@
 -- What each exported question says: the reply of the question itself, in the numbers of the rules. And what it means that a question refuses (Refuses).
 use Rattle.std.specs.Prelude.{List, [], ◌∷◌, ◌≡◌, ℕ, zero, suc, length, take}
 use denote.Ref.{MutBor, at_last}
-use Rattle.stations.specs.Sets.{one-if, Before}
+use Rattle.stations.specs.Sets.{one_if, Before}
 use Rattle.stations.specs.Words.{has}
 use Rattle.stations.specs.Answers.{FirstRow}
 use Rattle.card.specs.Card.{Test, FirstFailing}
@@ -51,7 +51,7 @@ pub record RoutesDesk (n : ℕ) (t : List ℕ) (a b r joined count : ℕ) : Type
   pub answer : routed.Answer
   pub replies : routes.Replies n t a b answer
   pub number : r ≡ routes.number answer
-  pub linked-pair : joined ≡ one-if (routes.joined answer)
+  pub linked_pair : joined ≡ one_if (routes.joined answer)
   pub counted : count ≡ routes.count answer
 
 -- the holding question
@@ -60,14 +60,14 @@ pub record HoldingDesk (n : ℕ) (t : List ℕ) (k : ℕ) (s : List ℕ) (r verd
   pub replies : holding.Replies n t k s answer
   pub number : r ≡ holding.number answer
   pub told : verdict ≡ holding.verdict answer
-  pub weak : (x : ℕ) → has (w0 ∷ w1 ∷ w2 ∷ w3 ∷ []) x ≡ holding.weak-set answer x
+  pub weak : (x : ℕ) → has (w0 ∷ w1 ∷ w2 ∷ w3 ∷ []) x ≡ holding.weak_set answer x
 
 -- the verdict alone
 pub record VerdictDesk (n : ℕ) (t : List ℕ) (k : ℕ) (s : List ℕ) (r verdict : ℕ) : Type 0 where
   pub brief : briefly.Brief
   pub replies : holding.Judges n t k s brief
-  pub number : r ≡ holding.brief-number brief
-  pub told : verdict ≡ holding.brief-verdict brief
+  pub number : r ≡ holding.brief_number brief
+  pub told : verdict ≡ holding.brief_verdict brief
 
 -- the list question; l is the list before, l' the list after
 pub record ListDesk (n : ℕ) (t : List ℕ) (k : ℕ) (l l' : List ℕ) (r count : ℕ) : Type 0 where
@@ -79,13 +79,13 @@ pub record ListDesk (n : ℕ) (t : List ℕ) (k : ℕ) (l l' : List ℕ) (r coun
 -- standings
 pub record StationDesk (n : ℕ) (t : List ℕ) (a r standing : ℕ) : Type 0 where
   pub answer : stood.Answer
-  pub replies : standings.Replies (standings.station-order n t a) (Standing (linked t) n a) answer
+  pub replies : standings.Replies (standings.station_order n t a) (Standing (linked t) n a) answer
   pub number : r ≡ standings.number answer
   pub stands : standing ≡ standings.level answer
 
 pub record PairDesk (n : ℕ) (t : List ℕ) (a b r standing : ℕ) : Type 0 where
   pub answer : stood.Answer
-  pub replies : standings.Replies (standings.pair-order n t a b) (PairStanding (linked t) n a b) answer
+  pub replies : standings.Replies (standings.pair_order n t a b) (PairStanding (linked t) n a b) answer
   pub number : r ≡ standings.number answer
   pub stands : standing ≡ standings.level answer
 
@@ -94,19 +94,19 @@ pub record ReadDesk (bs serials table serials' table' : List ℕ) (r version n l
   pub answer : ReadAnswer
   pub replies : reader.Reads bs serials table serials' table' answer
   pub number : r ≡ reader.number answer
-  pub of-version : version ≡ reader.version answer
-  pub of-stations : n ≡ reader.stations answer
-  pub of-links : links ≡ reader.links answer
+  pub of_version : version ≡ reader.version answer
+  pub of_stations : n ≡ reader.stations answer
+  pub of_links : links ≡ reader.links answer
 
 pub record WriteDesk (n : ℕ) (serials table bs bs' : List ℕ) (r length : ℕ) : Type 0 where
   pub answer : WriteAnswer
   pub replies : writer.Writes n serials table bs bs' answer
   pub number : r ≡ writer.number answer
-  pub of_length : length ≡ writer.file-length answer
+  pub of_length : length ≡ writer.file_length answer
 
 -- the night list; p is the buffer before, p' the buffer after
 pub record PageDesk (bs p p' : List ℕ) (r length : ℕ) : Type 0 where
   pub answer : PageAnswer
   pub replies : page.Prints bs p p' answer
   pub number : r ≡ page.number answer
-  pub of_length : length ≡ page.page-length answer
+  pub of_length : length ≡ page.page_length answer

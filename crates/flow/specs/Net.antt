@@ -1,25 +1,25 @@
 -- What `flow` answers about the net between two sets of ends, in a table of links.
---   netOf t inner starts ends    the net
+--   net_of t inner starts ends    the net
 --   Flow N limit r               as many chains as the limit, that share no station; or fewer, with a loss of as many stations that leaves none
 use Rattle.std.specs.Prelude.{List, ◌≡◌, refl, ℕ, ◌+◌, ◌*◌, ◌<◌, ◌≤◌, length}
-use Rattle.stations.specs.Sets.{◌is-in◌, ◌part-of◌, size}
+use Rattle.stations.specs.Sets.{◌is_in◌, ◌part_of◌, size}
 use Rattle.stations.specs.Words.{words, members}
 use Rattle.stations.specs.declared.StationSet.{StationSet}
-use Rattle.stations.proofs.Laws.{has-small}
+use Rattle.stations.proofs.Laws.{has_small}
 use Rattle.mesh.specs.Table.{linked}
 use Rattle.linkage.specs.Net.{Net, Family, Parts}
 use Rattle.flow.specs.declared.Cut.{Cut}
 use Rattle.flow.specs.declared.Cut.TheVariants.{Many, Few}
 
 -- The net of the stations `inner`, with the links of the table t, from the stations `starts` to the stations `ends`.
-abbrev pub netOf : List ℕ → StationSet → StationSet → StationSet → Net
-netOf t inner starts ends = record {
+abbrev pub net_of : List ℕ → StationSet → StationSet → StationSet → Net
+net_of t inner starts ends = record {
   mark = 256;
   link = linked t;
   inner = members inner;
   starts = members starts;
   ends = members ends;
-  below = λ w m. has-small (words inner) w refl m;
+  below = λ w m. has_small (words inner) w refl m;
 }
 
 -- c chains that share no station, fewer than the limit, and a loss s of c stations of the net that leaves no chain: so c is the greatest number of

@@ -5,14 +5,14 @@
 --   Searched N .. r      what a search came to: an end (Came), or none (Stuck)
 --   Start, Turned        what the way back along a search starts from and comes to, whatever the net
 use Rattle.std.specs.Prelude.{true, false, cond, List, ◌≡◌, ℕ, suc, ◌+◌, ◌<◌, length, get_or}
-use Rattle.stations.specs.Sets.{Set, ◌is-in◌, ◌not-in◌, ◌part-of◌, ◌without◌, ◌cut◌, ◌joined◌, only, size}
+use Rattle.stations.specs.Sets.{Set, ◌is_in◌, ◌not_in◌, ◌part_of◌, ◌without◌, ◌cut◌, ◌joined◌, only, size}
 use Rattle.stations.specs.Words.{bit, members}
 use Rattle.stations.specs.declared.StationSet.{StationSet}
 use Rattle.stations.specs.declared.Found.{Found}
 use Rattle.stations.specs.declared.Found.TheVariants.{At, Nothing}
 use Rattle.linkage.specs.Net.{Net}
 use Rattle.linkage.specs.Linkage.{Linkage, Search, Closed}
-use Rattle.flow.specs.Net.{netOf}
+use Rattle.flow.specs.Net.{net_of}
 use Rattle.flow.specs.declared.steps.Sought.{Sought}
 use Rattle.flow.specs.declared.steps.Sought.TheVariants.{Way, Shut}
 
@@ -25,7 +25,7 @@ read s l w = cond (s w) 256 (at l w)
 
 -- a station of the set, or none
 abbrev pub SomeOf : Set → Found → Type 0
-SomeOf s (At j) = (j < 256) × (j is-in s)
+SomeOf s (At j) = (j < 256) × (j is_in s)
 SomeOf s Nothing = (x : ℕ) → x not_in s
 
 -- g is stored at the stations base + j, for each set bit j of w
@@ -37,7 +37,7 @@ pub record MarkedIn (from : List ℕ) (base w g : ℕ) (from' : List ℕ) : Type
 -- g is stored at the stations of s
 pub record Marked (from : List ℕ) (s : Set) (g : ℕ) (from' : List ℕ) : Type 0 where
   pub whole : length from' ≡ 256
-  pub new : (x : ℕ) → x is-in s → at from' x ≡ g
+  pub new : (x : ℕ) → x is_in s → at from' x ≡ g
   pub old : (x : ℕ) → x not_in s → at from' x ≡ at from x
 
 -- each station below k holds itself
@@ -48,8 +48,8 @@ pub record Idle (hold : List ℕ) (k : ℕ) : Type 0 where
 -- hold is a linkage of c chains, and these start at the stations of `first`
 pub record Held (t : List ℕ) (inner starts ends first : StationSet) (hold : List ℕ) (c : ℕ) : Type 0 where
   pub whole : length hold ≡ 256
-  pub firsts : (w : ℕ) → w is-in members first → (w is-in members inner) × (w is-in members starts)
-  pub linkage : Linkage (netOf t inner starts ends) (members inner) (read (members first) hold) c
+  pub firsts : (w : ℕ) → w is_in members first → (w is_in members inner) × (w is_in members starts)
+  pub linkage : Linkage (net_of t inner starts ends) (members inner) (read (members first) hold) c
 
 -- what a search begins with: into and todo are the starts, and those of them that start no chain
 pub record Setting (t : List ℕ) (inner ends : StationSet) (hold : List ℕ) (into todo : StationSet) : Type 0 where
@@ -57,17 +57,17 @@ pub record Setting (t : List ℕ) (inner ends : StationSet) (hold : List ℕ) (i
   pub first : StationSet
   pub number : ℕ
   pub held : Held t inner starts ends first hold number
-  pub into-law : (w : ℕ) → members into w ≡ (members starts cut members inner) w
-  pub todo-law : (w : ℕ) → members todo w ≡ (members into without members first) w
+  pub into_law : (w : ℕ) → members into w ≡ (members starts cut members inner) w
+  pub todo_law : (w : ℕ) → members todo w ≡ (members into without members first) w
 
 -- The search came to the station h, which holds an end.
 pub record Came (N : Net) (starts : StationSet) (first : Set) (hold from : List ℕ) (h : ℕ) : Type 0 where
   pub reached : Set
   pub time : ℕ → ℕ
   pub search : Search N (read first hold) (read (members starts) from) time reached (size N.mark reached)
-  pub here : h is-in reached
-  pub held : read first hold h is-in N.inner
-  pub ends : read first hold h is-in N.ends
+  pub here : h is_in reached
+  pub held : read first hold h is_in N.inner
+  pub ends : read first hold h is_in N.ends
 
 -- The search came to no end, and s is what it came into and not out of.
 pub record Stuck (N : Net) (first : Set) (hold : List ℕ) (s : StationSet) : Type 0 where
@@ -100,6 +100,6 @@ pub record Start (starts : StationSet) (hold from : List ℕ) (last : ℕ) : Typ
 pub record Turned (starts : StationSet) (hold from : List ℕ) (last : ℕ) (hold' : List ℕ) (r : ℕ) : Type 0 where
   pub whole : length hold' ≡ 256
   pub small : r < 256
-  pub start : r is-in members starts
-  pub inner : (W : Start starts hold from last) → r is-in W.net.inner
+  pub start : r is_in members starts
+  pub inner : (W : Start starts hold from last) → r is_in W.net.inner
   pub linkage : (W : Start starts hold from last) → Linkage W.net W.net.inner (read (W.first joined only r) hold') (suc W.number)

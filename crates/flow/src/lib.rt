@@ -2,7 +2,7 @@
 ghost use Rattle.std.specs.Prelude.{ℕ};
 ghost use Rattle.mesh.specs.Table.{Fits};
 ghost use Rattle.stations.specs.Words.{members};
-ghost use Rattle.flow.specs.Net.{netOf, Flow};
+ghost use Rattle.flow.specs.Net.{net_of, Flow};
 ghost use Rattle.flow.specs.Pair.{Asked, BetweenOf};
 
 use stations::StationSet;
@@ -26,7 +26,7 @@ pub fn flow(
     limit: usize,
 ) -> Cut
     requires { Fits table.now (members inner) }
-    ensures { Flow (netOf table.now inner starts ends) limit result }
+    ensures { Flow (net_of table.now inner starts ends) limit result }
 {
     let mut first = inner.cut(starts).cut(ends);
     let mut c = first.size();

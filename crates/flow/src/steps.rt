@@ -3,7 +3,7 @@
 ghost use Rattle.std.specs.Prelude.{◌≡◌, ℕ, ◌<◌, ◌≤◌, length};
 ghost use Rattle.stations.specs.Words.{members};
 ghost use Rattle.mesh.specs.Table.{Fits};
-ghost use Rattle.flow.specs.Net.{netOf};
+ghost use Rattle.flow.specs.Net.{net_of};
 ghost use Rattle.flow.specs.Search.{SomeOf, MarkedIn, Marked, Idle, Held, Searched, Start, Turned};
 
 use stations::{Found, StationSet};
@@ -69,7 +69,7 @@ pub(crate) fn search(
     from: &mut [u8; 256],
 ) -> Sought
     requires { Fits table.now (members inner) × (length from.old ≡ 256) × ((c : ℕ) × Held table.now inner starts ends first hold.now c) }
-    ensures { Searched (netOf table.now inner starts ends) starts (members first) hold.now from.new result }
+    ensures { Searched (net_of table.now inner starts ends) starts (members first) hold.now from.new result }
 {
     let mut into = starts.cut(inner);
     let mut out = StationSet::empty();

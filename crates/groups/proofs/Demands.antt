@@ -6,22 +6,22 @@ use mathlib.Core.Path.{◌≡◌, refl, ap}
 use Prim.Native.Nat.{ℕ, ◌+◌, ◌-◌, ◌*◌, ◌/◌, ◌<◌, ◌≤◌}
 use lib.ListN.{length}
 use native.Mathlib.Omega.{arith}
-use Rattle.stations.specs.Sets.{Set, ◌part-of◌, ◌cut◌, size, Before}
+use Rattle.stations.specs.Sets.{Set, ◌part_of◌, ◌cut◌, size, Before}
 use Rattle.stations.specs.Words.{has, row, members}
 use Rattle.mesh.specs.Mesh.{Mesh, Group, Reply, HOLDS, FEW, WEAK, Answers, R}
 use Rattle.mesh.specs.Mesh as mesh
 use Rattle.mesh.specs.Table.{linked, Table}
-use Rattle.mesh.proofs.OnlyOne.{answer-one}
-use Rattle.card.specs.Card.{LEVEL, LIST-ROOM, ROWS}
-use Rattle.card.proofs.Card.{number-above, none-given, table-passes, level-passes, rows_pass}
-use Rattle.card.proofs.TableTest.{table-mesh}
+use Rattle.mesh.proofs.OnlyOne.{answer_one}
+use Rattle.card.specs.Card.{LEVEL, LIST_ROOM, ROWS}
+use Rattle.card.proofs.Card.{number_above, none_given, table_passes, level_passes, rows_pass}
+use Rattle.card.proofs.TableTest.{table_mesh}
 use Rattle.holding.specs.declared.Answer as held
 use Rattle.holding.specs.declared.Answer.TheVariants.{Holds, Few, Weak, Refused}
 use Rattle.holding.specs.Reply as holding
 use Rattle.holding.proofs.Demands.{answers as holding-answers}
 use Rattle.mesh.proofs.Covered.{covered}
-use Rattle.mesh.proofs.Sharing.{groups-share}
-use Rattle.mesh.proofs.Bound.{weight, rows-weight}
+use Rattle.mesh.proofs.Sharing.{groups_share}
+use Rattle.mesh.proofs.Bound.{weight, rows_weight}
 use Rattle.listing.specs.List.{set_at}
 use Rattle.groups.specs.declared.Answer.{Answer}
 use Rattle.groups.specs.Reply.{number, count, order, Replies, RowReplies}
@@ -33,21 +33,21 @@ code HOLDS = 0
 code FEW = 1
 code (WEAK s) = 2
 
-few-holds : FEW ≡ HOLDS → ⊥
-few-holds e = omega (arith, ap code e)
+few_holds : FEW ≡ HOLDS → ⊥
+few_holds e = omega (arith, ap code e)
 
-weak-holds : {s : Set} → WEAK s ≡ HOLDS → ⊥
-weak-holds e = omega (arith, ap code e)
+weak_holds : {s : Set} → WEAK s ≡ HOLDS → ⊥
+weak_holds e = omega (arith, ap code e)
 
 -- every accepted table, level from 1 to 16 and list with room is answered: no refusal is left, 15 neither
 pub answers : (n : ℕ) (t : List ℕ) (k : ℕ) (l l' : List ℕ) (r : Answer) → Replies n t k l l' r → Table n t → 1 ≤ k → k ≤ 16 → R n k * 4 ≤ length l → number r ≡ 0
-answers n t k l l' r p T a b room = none-given (order n t k (length l)) (number r) p.refused
-    (table-passes n t (LEVEL k ∷ LIST-ROOM n k (length l) ∷ ROWS n t k ∷ []) T (level-passes k a b, (λ x. omega arith, (rows_pass n t k, tt))))
+answers n t k l l' r p T a b room = none_given (order n t k (length l)) (number r) p.refused
+    (table_passes n t (LEVEL k ∷ LIST_ROOM n k (length l) ∷ ROWS n t k ∷ []) T (level_passes k a b, (λ x. omega arith, (rows_pass n t k, tt))))
 
 module _ (n : ℕ) (t : List ℕ) (k : ℕ) (l l' : List ℕ) (r : Answer) (p : Replies n t k l l' r) (answered : number r ≡ 0) where
   -- L1: each group is a row
-  pub names-each : (s : Set) → Group (linked t) n k s → (i : ℕ) × (i < count r) × (s ≡ set_at l' i)
-  names-each = (p.listed answered).groups.all
+  pub names_each : (s : Set) → Group (linked t) n k s → (i : ℕ) × (i < count r) × (s ≡ set_at l' i)
+  names_each = (p.listed answered).groups.all
 
   -- L2: and one row only
   pub once : (i j : ℕ) → i < count r → j < count r → set_at l' i ≡ set_at l' j → i ≡ j
@@ -58,28 +58,28 @@ module _ (n : ℕ) (t : List ℕ) (k : ℕ) (l l' : List ℕ) (r : Answer) (p : 
   in_order = (p.listed answered).order
 
   -- L3: and each row is a group
-  pub nothing-else : (i : ℕ) → i < count r → Group (linked t) n k (set_at l' i)
-  nothing-else = (p.listed answered).groups.group
+  pub nothing_else : (i : ℕ) → i < count r → Group (linked t) n k (set_at l' i)
+  nothing_else = (p.listed answered).groups.group
 
   -- L5: a set that holds lies in a row
-  pub every-set-inside : (s : Set) → mesh.Holds (linked t) n k s → (i : ℕ) × (i < count r) × (s part_of set_at l' i)
-  every-set-inside = covered (linked t) n k (table-mesh (passed n t k (length l) (number r) p.refused answered).table) (count r) (set_at l') (p.listed answered).groups
+  pub every_set_inside : (s : Set) → mesh.Holds (linked t) n k s → (i : ℕ) × (i < count r) × (s part_of set_at l' i)
+  every_set_inside = covered (linked t) n k (table_mesh (passed n t k (length l) (number r) p.refused answered).table) (count r) (set_at l') (p.listed answered).groups
 
   -- L6: two rows have fewer than k stations in common
-  pub share-fewer : (i j : ℕ) → i < count r → j < count r → i ≢ j → size n (set_at l' i cut set_at l' j) < k
-  share-fewer i j a b d = groups-share (linked t) n k (set_at l' i) (set_at l' j) (nothing-else i a) (nothing-else j b) (λ e. d (once i j a b e))
+  pub share_fewer : (i j : ℕ) → i < count r → j < count r → i ≢ j → size n (set_at l' i cut set_at l' j) < k
+  share_fewer i j a b d = groups_share (linked t) n k (set_at l' i) (set_at l' j) (nothing_else i a) (nothing_else j b) (λ e. d (once i j a b e))
 
   -- L7: how many rows there are at most; with n at k or less there is none
   pub at_most : k < n → count r ≤ (n - k + 1) / 2
-  at_most h = omega (arith, p.most, rows-weight n k)
+  at_most h = omega (arith, p.most, rows_weight n k)
 
   pub none_at_all : n ≤ k → count r ≡ 0
-  none_at_all h = omega (arith, p.most, rows-weight n k)
+  none_at_all h = omega (arith, p.most, rows_weight n k)
 
 -- H6: the holding question about a listed row, asked in its place, replies HOLDS
-pub listed-row-holds : (n : ℕ) (t : List ℕ) (k : ℕ) (l l' : List ℕ) (r : Answer) → Replies n t k l l' r → number r ≡ 0 → (i : ℕ) → i < count r
+pub listed_row_holds : (n : ℕ) (t : List ℕ) (k : ℕ) (l l' : List ℕ) (r : Answer) → Replies n t k l l' r → number r ≡ 0 → (i : ℕ) → i < count r
     → (a : held.Answer) → RowReplies n t k l' i a → a ≡ Holds
-listed-row-holds n t k l l' r p e i h a q = only a (q.inside inside)
+listed_row_holds n t k l l' r p e i h a q = only a (q.inside inside)
   where
     A : Accepted n t k (length l)
     A = passed n t k (length l) (number r) p.refused e
@@ -94,10 +94,10 @@ listed-row-holds n t k l l' r p e i h a q = only a (q.inside inside)
     answered a q = holding-answers n t k (row l' i) a q A.table A.above A.most refl g.holds.below
 
     one : (x : Reply) → Answers (linked t) n k (has (row l' i)) x → x ≡ HOLDS
-    one x b = answer-one (linked t) n k (has (row l' i)) x HOLDS b g.holds
+    one x b = answer_one (linked t) n k (has (row l' i)) x HOLDS b g.holds
 
     only : (a : held.Answer) → holding.Replies n t k (row l' i) a → a ≡ Holds
     only Holds q = refl
-    only Few q = let z = one FEW (q.right refl) in absurd (few-holds z)
-    only (Weak s) q = let z = one (WEAK (members s)) (q.right refl) in absurd (weak-holds z)
-    only (Refused x) q = absurd (number-above x (answered (Refused x) q))
+    only Few q = let z = one FEW (q.right refl) in absurd (few_holds z)
+    only (Weak s) q = let z = one (WEAK (members s)) (q.right refl) in absurd (weak_holds z)
+    only (Refused x) q = absurd (number_above x (answered (Refused x) q))

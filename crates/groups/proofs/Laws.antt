@@ -13,38 +13,38 @@ use borrow.Author.Tests.{ltb-true}
 use Rattle.stations.specs.Sets.{Set, stations, size}
 use Rattle.stations.specs.Words.{members}
 use Rattle.stations.specs.declared.StationSet.{StationSet}
-use Rattle.stations.proofs.Counting.{size-past, size-stations}
+use Rattle.stations.proofs.Counting.{size_past, size-stations}
 use Rattle.mesh.specs.Mesh.{R}
 use Rattle.mesh.specs.Table.{linked, Table}
 use Rattle.card.specs.declared.Refusal.{Refusal}
-use Rattle.card.specs.Card.{FirstFailing, earlier, table-order, LEVEL, LIST-ROOM, ROWS}
-use Rattle.card.proofs.Card.{Passes, first_then, table-numbered, table-passed, number-above, rows_pass}
-use Rattle.card.proofs.TableTest.{table-mesh}
+use Rattle.card.specs.Card.{FirstFailing, earlier, table_order, LEVEL, LIST_ROOM, ROWS}
+use Rattle.card.proofs.Card.{Passes, first_then, table_numbered, table_passed, number_above, rows_pass}
+use Rattle.card.proofs.TableTest.{table_mesh}
 use Rattle.holding.specs.declared.Answer as holding-answer
 use Rattle.holding.specs.Reply as holding
 use Rattle.listing.specs.List.{set_at, ListedIn, Asked, Listing}
-use Rattle.listing.proofs.Ending.{listed-groups}
+use Rattle.listing.proofs.Ending.{listed_groups}
 use Rattle.groups.specs.declared.Answer.{Answer}
 use Rattle.groups.specs.declared.Answer.TheVariants.{Groups, Refused}
 use Rattle.groups.specs.Reply.{number, order, Replies, RowReplies}
 use Rattle.groups.specs.Steps.{Accepted, Says}
 
 -- the tests one after the other; 15 never fails, so it needs no test
-pub ordered : (n : ℕ) (t : List ℕ) (k words : ℕ) (p q u v r : ℕ) → FirstFailing (table-order n t) p → FirstFailing (LEVEL k ∷ []) q
-    → FirstFailing (LIST-ROOM n k words ∷ []) u → v ≡ earlier p q → r ≡ earlier v u → FirstFailing (order n t k words) r
+pub ordered : (n : ℕ) (t : List ℕ) (k words : ℕ) (p q u v r : ℕ) → FirstFailing (table_order n t) p → FirstFailing (LEVEL k ∷ []) q
+    → FirstFailing (LIST_ROOM n k words ∷ []) u → v ≡ earlier p q → r ≡ earlier v u → FirstFailing (order n t k words) r
 ordered n t k words p q u v r f g h e i =
     subst (FirstFailing (order n t k words)) (sym i)
-    (first_then (table-order n t ++ (LEVEL k ∷ [])) (LIST-ROOM n k words ∷ ROWS n t k ∷ []) v u (omega arith, (omega arith, (omega arith, (omega arith, tt))))
-    (subst (FirstFailing (table-order n t ++ (LEVEL k ∷ []))) (sym e) (first_then (table-order n t) (LEVEL k ∷ []) p q (table-numbered n t) f g)) (last h))
+    (first_then (table_order n t ++ (LEVEL k ∷ [])) (LIST_ROOM n k words ∷ ROWS n t k ∷ []) v u (omega arith, (omega arith, (omega arith, (omega arith, tt))))
+    (subst (FirstFailing (table_order n t ++ (LEVEL k ∷ []))) (sym e) (first_then (table_order n t) (LEVEL k ∷ []) p q (table_numbered n t) f g)) (last h))
   where
-    last : FirstFailing (LIST-ROOM n k words ∷ []) u → FirstFailing (LIST-ROOM n k words ∷ ROWS n t k ∷ []) u
+    last : FirstFailing (LIST_ROOM n k words ∷ []) u → FirstFailing (LIST_ROOM n k words ∷ ROWS n t k ∷ []) u
     last (inl x) = inl x
     last (inr x) = inr (x.0, inr (rows_pass n t k, x.1))
 
 pub passed : (n : ℕ) (t : List ℕ) (k words r : ℕ) → FirstFailing (order n t k words) r → r ≡ 0 → Accepted n t k words
-passed n t k words r f e = go (table-passed n t (LEVEL k ∷ LIST-ROOM n k words ∷ ROWS n t k ∷ []) (omega arith, (omega arith, (omega arith, tt))) (subst (FirstFailing (order n t k words)) e f))
+passed n t k words r f e = go (table_passed n t (LEVEL k ∷ LIST_ROOM n k words ∷ ROWS n t k ∷ []) (omega arith, (omega arith, (omega arith, tt))) (subst (FirstFailing (order n t k words)) e f))
   where
-    go : Table n t × Passes (LEVEL k ∷ LIST-ROOM n k words ∷ ROWS n t k ∷ []) → Accepted n t k words
+    go : Table n t × Passes (LEVEL k ∷ LIST_ROOM n k words ∷ ROWS n t k ∷ []) → Accepted n t k words
     go (table, (level, (room, _))) = record { table = table; above = above (ℕ_discrete k 0); most = most (dec_lt 16 k); room = enough (dec_lt words (R n k * 4)) }
       where
         above : Dec (k ≡ 0) → 0 < k
@@ -64,18 +64,18 @@ module _ (n : ℕ) (t : List ℕ) (k : ℕ) (l : List ℕ) (A : Accepted n t k (
   same = fun_ext law
 
   many : size 256 (members set) ≡ n
-  many = ap (size 256) same ∙ size-past n 256 (stations n) (λ x. ltb-true x n) A.table.few ∙ size-stations n
+  many = ap (size 256) same ∙ size_past n 256 (stations n) (λ x. ltb-true x n) A.table.few ∙ size-stations n
 
   pub asked : Asked t (members set) k l
   asked = record {
     fits = λ x h. omega (arith, ltb-true x n (sym (law x) ∙ h), A.table.long);
-    mesh = table-mesh A.table;
+    mesh = table_mesh A.table;
     room = rw many A.room;
   }
 
   pub told : (l' : List ℕ) (g : ℕ) → Listing t (members set) k l l' g → Says n t k l l' g
   told l' g f = record {
-    listed = listed-groups (linked t) n k g (set_at l') A.table.few (subst (λ (D : Set). ListedIn (linked t) 256 k D g (set_at l')) same f.listed);
+    listed = listed_groups (linked t) n k g (set_at l') A.table.few (subst (λ (D : Set). ListedIn (linked t) 256 k D g (set_at l')) same f.listed);
     most = rw many at f.most;
     clear = λ p a b. f.clear p a (rw many b);
     past = λ p a. f.past p (rw many a);
@@ -94,20 +94,20 @@ replied n t k l l' g v f e s = record {
   long = s.long;
 }
 
-pub refused-reply : (n : ℕ) (t : List ℕ) (k : ℕ) (l : List ℕ) (r : Refusal) → FirstFailing (order n t k (length l)) (Rattle.card.specs.Card.number r) → Replies n t k l l (Refused r)
-refused-reply n t k l r f = record {
+pub refused_reply : (n : ℕ) (t : List ℕ) (k : ℕ) (l : List ℕ) (r : Refusal) → FirstFailing (order n t k (length l)) (Rattle.card.specs.Card.number r) → Replies n t k l l (Refused r)
+refused_reply n t k l r f = record {
   refused = f;
   kept = λ _. refl;
-  listed = λ e. absurd (number-above r e);
+  listed = λ e. absurd (number_above r e);
   most = omega arith;
-  clear = λ e. absurd (number-above r e);
+  clear = λ e. absurd (number_above r e);
   past = λ p _. refl;
   long = refl;
 }
 
 -- ---- a row where it stands: four words starting at 4i are the row i
-four-words : (l : List ℕ) (f : ℕ) → f + 4 ≤ length l → take 4 (drop f l) ≡ get_or l f 0 ∷ get_or l (f + 1) 0 ∷ get_or l (f + 2) 0 ∷ get_or l (f + 3) 0 ∷ []
-four-words l f h =
+four_words : (l : List ℕ) (f : ℕ) → f + 4 ≤ length l → take 4 (drop f l) ≡ get_or l f 0 ∷ get_or l (f + 1) 0 ∷ get_or l (f + 2) 0 ∷ get_or l (f + 3) 0 ∷ []
+four_words l f h =
     ap (take 4)
     (drop-cons l f 0 (omega arith)
     ∙ ap (λ (r : List ℕ). get_or l f 0 ∷ r) (at (suc f) (f + 1) (omega arith) (omega arith)
@@ -119,10 +119,10 @@ four-words l f h =
 
 pub row_inside : (n : ℕ) (t : List ℕ) (k : ℕ) (l : List ℕ) (i : ℕ) (r : holding-answer.Answer) → i * 4 + 4 ≤ length l → holding.Replies n t k (take (i * 4 + 4 - i * 4) (drop (i * 4) l)) r
     → RowReplies n t k l i r
-row_inside n t k l i r h p = record { inside = λ _. subst (λ (s : List ℕ). holding.Replies n t k s r) (ap (λ (m : ℕ). take m (drop (i * 4) l)) four ∙ four-words l (i * 4) h) p; outside = λ g. absurd (omega arith) }
+row_inside n t k l i r h p = record { inside = λ _. subst (λ (s : List ℕ). holding.Replies n t k s r) (ap (λ (m : ℕ). take m (drop (i * 4) l)) four ∙ four_words l (i * 4) h) p; outside = λ g. absurd (omega arith) }
   where
     four : i * 4 + 4 - i * 4 ≡ 4
     four = omega arith
 
-pub row-outside : (n : ℕ) (t : List ℕ) (k : ℕ) (l : List ℕ) (i : ℕ) (r : holding-answer.Answer) → length l < i * 4 + 4 → holding.Replies n t k [] r → RowReplies n t k l i r
-row-outside n t k l i r h p = record { inside = λ g. absurd (omega arith); outside = λ _. p }
+pub row_outside : (n : ℕ) (t : List ℕ) (k : ℕ) (l : List ℕ) (i : ℕ) (r : holding-answer.Answer) → length l < i * 4 + 4 → holding.Replies n t k [] r → RowReplies n t k l i r
+row_outside n t k l i r h p = record { inside = λ g. absurd (omega arith); outside = λ _. p }

@@ -13,16 +13,16 @@ use lib.ListN.{length, get_or, get_or-eq_default}
 use lib.Seq.{ext_get_or}
 use Rattle.stations.specs.Sets.{Set}
 use Rattle.stations.specs.Words.{has, row}
-use Rattle.stations.proofs.Laws.{Wide, four, members-same}
+use Rattle.stations.proofs.Laws.{Wide, four, members_same}
 use Rattle.mesh.specs.Mesh.{Listed, R}
 use Rattle.mesh.specs.Table.{linked}
-use Rattle.mesh.proofs.OnlyOne.{listed-one}
-use Rattle.card.proofs.Card.{first_one, refusal-one, number-above}
+use Rattle.mesh.proofs.OnlyOne.{listed_one}
+use Rattle.card.proofs.Card.{first_one, refusal_one, number_above}
 use Rattle.listing.specs.List.{set_at}
 use Rattle.groups.specs.declared.Answer.{Answer}
 use Rattle.groups.specs.declared.Answer.TheVariants.{Groups, Refused}
 use Rattle.holding.specs.declared.Answer as held
-use Rattle.holding.proofs.OnlyOne.{Worded, holding-only-one}
+use Rattle.holding.proofs.OnlyOne.{Worded, holding_only_one}
 use Rattle.groups.specs.Reply.{number, count, order, Replies, RowReplies}
 
 wide_row : (l : List ℕ) (i : ℕ) → Wide l → Wide (row l i)
@@ -38,45 +38,45 @@ wide_row l i w j = go (dec_lt j 4)
 -- the same set in row i is the same words there
 word_at : (l l' : List ℕ) (i q : ℕ) → Wide l → Wide l' → set_at l i ≡ set_at l' i → q < 4 → get_or l (i * 4 + q) 0 ≡ get_or l' (i * 4 + q) 0
 word_at l l' i q w w' e h =
-    sym (at l) ∙ ap (λ (r : List ℕ). get_or r q 0) (members-same (row l i) (row l' i) refl refl (wide_row l i w) (wide_row l' i w') (λ j. ap (λ (s : Set). s j) e)) ∙ at l'
+    sym (at l) ∙ ap (λ (r : List ℕ). get_or r q 0) (members_same (row l i) (row l' i) refl refl (wide_row l i w) (wide_row l' i w') (λ j. ap (λ (s : Set). s j) e)) ∙ at l'
   where
     at : (l : List ℕ) → get_or (row l i) q 0 ≡ get_or l (i * 4 + q) 0
     at l = four (λ (q : ℕ). get_or (row l i) q 0 ≡ get_or l (i * 4 + q) 0) (ap (λ (m : ℕ). get_or l m 0) (sym (add-zero (i * 4)))) refl refl refl q h
 
 module _ (n : ℕ) (t : List ℕ) (k : ℕ) (l a b : List ℕ) (wa : Wide a) (wb : Wide b) (r s : Answer) (p : Replies n t k l a r) (q : Replies n t k l b s) where
-  number-one : number r ≡ number s
-  number-one = first_one (order n t k (length l)) (number r) (number s) p.refused q.refused
+  number_one : number r ≡ number s
+  number_one = first_one (order n t k (length l)) (number r) (number s) p.refused q.refused
 
   -- where it is answered, the counts and the rows are the same
-  rows-one : number r ≡ 0 → (count r ≡ count s) × ((i : ℕ) → i < count r → set_at a i ≡ set_at b i)
-  rows-one e = listed-one (linked t) n k (count r) (count s) (set_at a) (set_at b) (p.listed e) (q.listed (sym number-one ∙ e))
+  rows_one : number r ≡ 0 → (count r ≡ count s) × ((i : ℕ) → i < count r → set_at a i ≡ set_at b i)
+  rows_one e = listed_one (linked t) n k (count r) (count s) (set_at a) (set_at b) (p.listed e) (q.listed (sym number_one ∙ e))
 
-  words-one : number r ≡ 0 → a ≡ b
-  words-one e = ext_get_or 0 a b (p.long ∙ sym q.long) (λ x h. go x (dec_lt x (count r * 4)) (dec_lt x (R n k * 4)))
+  words_one : number r ≡ 0 → a ≡ b
+  words_one e = ext_get_or 0 a b (p.long ∙ sym q.long) (λ x h. go x (dec_lt x (count r * 4)) (dec_lt x (R n k * 4)))
     where
       c : count r ≡ count s
-      c = (rows-one e).0
+      c = (rows_one e).0
 
       go : (x : ℕ) → Dec (x < count r * 4) → Dec (x < R n k * 4) → get_or a x 0 ≡ get_or b x 0
       go x (yes h) _ =
           let f : x / 4 * 4 + x % 4 ≡ x = omega arith in
-          rw f at (word_at a b (x / 4) (x % 4) wa wb ((rows-one e).1 (x / 4) (omega arith)) (omega arith))
-      go x (no h) (yes g) = p.clear e x (omega arith) g ∙ sym (q.clear (sym number-one ∙ e) x (omega (arith, c)) g)
+          rw f at (word_at a b (x / 4) (x % 4) wa wb ((rows_one e).1 (x / 4) (omega arith)) (omega arith))
+      go x (no h) (yes g) = p.clear e x (omega arith) g ∙ sym (q.clear (sym number_one ∙ e) x (omega (arith, c)) g)
       go x (no h) (no g) = p.past x (omega arith) ∙ sym (q.past x (omega arith))
 
-  pub list-only-one : (r ≡ s) × (a ≡ b)
-  list-only-one = go r s number-one (λ e. (rows-one e).0) words-one (λ h. p.kept h) (λ h. q.kept h)
+  pub list_only_one : (r ≡ s) × (a ≡ b)
+  list_only_one = go r s number_one (λ e. (rows_one e).0) words_one (λ h. p.kept h) (λ h. q.kept h)
     where
       go : (r s : Answer) → number r ≡ number s → (number r ≡ 0 → count r ≡ count s) → (number r ≡ 0 → a ≡ b) → (¬ (number r ≡ 0) → a ≡ l) → (¬ (number s ≡ 0) → b ≡ l) → (r ≡ s) × (a ≡ b)
       go (Groups g) (Groups h) e f w x y = (ap Groups (f refl), w refl)
-      go (Refused g) (Refused h) e f w x y = (ap Refused (refusal-one g h e), x (number-above g) ∙ sym (y (number-above h)))
-      go (Refused g) (Groups h) e f w x y = absurd (number-above g e)
-      go (Groups g) (Refused h) e f w x y = absurd (number-above h (sym e))
+      go (Refused g) (Refused h) e f w x y = (ap Refused (refusal_one g h e), x (number_above g) ∙ sym (y (number_above h)))
+      go (Refused g) (Groups h) e f w x y = absurd (number_above g e)
+      go (Groups g) (Refused h) e f w x y = absurd (number_above h (sym e))
 
 -- the holding question about a row where it stands in the list has one reply too
-pub row-only-one : (n : ℕ) (t : List ℕ) (k : ℕ) (l : List ℕ) (i : ℕ) (r r' : held.Answer) → Worded r → Worded r' → RowReplies n t k l i r → RowReplies n t k l i r' → r ≡ r'
-row-only-one n t k l i r r' w w' p q = go (dec_lt (length l) (i * 4 + 4))
+pub row_only_one : (n : ℕ) (t : List ℕ) (k : ℕ) (l : List ℕ) (i : ℕ) (r r' : held.Answer) → Worded r → Worded r' → RowReplies n t k l i r → RowReplies n t k l i r' → r ≡ r'
+row_only_one n t k l i r r' w w' p q = go (dec_lt (length l) (i * 4 + 4))
   where
     go : Dec (length l < i * 4 + 4) → r ≡ r'
-    go (yes h) = holding-only-one n t k [] r r' (p.outside h) (q.outside h) w w'
-    go (no h) = holding-only-one n t k (row l i) r r' (p.inside (omega arith)) (q.inside (omega arith)) w w'
+    go (yes h) = holding_only_one n t k [] r r' (p.outside h) (q.outside h) w w'
+    go (no h) = holding_only_one n t k (row l i) r r' (p.inside (omega arith)) (q.inside (omega arith)) w w'

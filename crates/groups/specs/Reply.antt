@@ -7,7 +7,7 @@ use Rattle.std.specs.Prelude.{List, [], ◌∷◌, ◌≡◌, ℕ, ◌+◌, ◌*
 use Rattle.stations.specs.Words.{row}
 use Rattle.mesh.specs.Mesh.{Listed, R}
 use Rattle.mesh.specs.Table.{linked}
-use Rattle.card.specs.Card.{Test, FirstFailing, STATIONS, TABLE-LENGTH, TABLE, LEVEL, LIST-ROOM, ROWS}
+use Rattle.card.specs.Card.{Test, FirstFailing, STATIONS, TABLE_LENGTH, TABLE, LEVEL, LIST_ROOM, ROWS}
 use Rattle.listing.specs.List.{set_at}
 use Rattle.holding.specs.declared.Answer as holding-answer
 use Rattle.holding.specs.Reply as holding
@@ -23,7 +23,7 @@ count (Groups g) = g
 count (Refused r) = 0
 
 abbrev pub order : ℕ → List ℕ → ℕ → ℕ → List Test
-order n t k words = STATIONS n ∷ TABLE-LENGTH n t ∷ TABLE n t ∷ LEVEL k ∷ LIST-ROOM n k words ∷ ROWS n t k ∷ []
+order n t k words = STATIONS n ∷ TABLE_LENGTH n t ∷ TABLE n t ∷ LEVEL k ∷ LIST_ROOM n k words ∷ ROWS n t k ∷ []
 
 pub record Replies (n : ℕ) (t : List ℕ) (k : ℕ) (l l' : List ℕ) (r : Answer) : Type 0 where
   -- refused exactly when a test fails, by the first that does; and then every word of the list is as it was

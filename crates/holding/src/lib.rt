@@ -1,7 +1,7 @@
 // The holding question: does a set hold at a level, and where it does not, which loss parts it?
 ghost use Rattle.std.specs.Prelude.{◌≡◌, ℕ};
 ghost use Rattle.stations.specs.Words.{members};
-ghost use Rattle.holding.specs.Reply.{number, verdict, weak-set, Replies, brief-number, brief-verdict, Judges};
+ghost use Rattle.holding.specs.Reply.{number, verdict, weak_set, Replies, brief_number, brief_verdict, Judges};
 ghost use Rattle.holding.specs.Steps.{Accepted, Says, SaysBriefly};
 
 use card::{Refusal, Tested};
@@ -45,7 +45,7 @@ impl Answer {
 
     // The weak set, or the empty set.
     pub fn weak_set(self) -> StationSet
-        ensures { (x : ℕ) → members result x ≡ weak-set self x }
+        ensures { (x : ℕ) → members result x ≡ weak_set self x }
     {
         let answer = self;
         match answer {
@@ -69,7 +69,7 @@ pub enum Brief {
 impl Brief {
     // The refusal's number, 0 where answered.
     pub fn number(self) -> u64
-        ensures { result ≡ brief-number self }
+        ensures { result ≡ brief_number self }
     {
         let brief = self;
         match brief {
@@ -82,7 +82,7 @@ impl Brief {
 
     // 0 for HOLDS, 1 for FEW, 2 for WEAK.
     pub fn verdict(self) -> u64
-        ensures { result ≡ brief-verdict self }
+        ensures { result ≡ brief_verdict self }
     {
         let brief = self;
         match brief {

@@ -11,20 +11,20 @@ use Rattle.lines.specs.Lines.{Added}
 pub added_none : (at : ℕ) (bs : List ℕ) → Added at at [] bs bs
 added_none at bs = record { next = omega arith; front = sym (append-nil (take at bs)); beyond = refl; long = refl }
 
-drop-on : (p r : ℕ) (xs ys : List ℕ) → p ≤ r → drop p xs ≡ drop p ys → drop r xs ≡ drop r ys
-drop-on p r xs ys h e =
+drop_on : (p r : ℕ) (xs ys : List ℕ) → p ≤ r → drop p xs ≡ drop p ys → drop r xs ≡ drop r ys
+drop_on p r xs ys h e =
     subst (λ (q : ℕ). drop q xs ≡ drop q ys) (add-sub_of_le h) (sym (drop-drop (r - p) p xs) ∙ ap (drop (r - p)) e ∙ drop-drop (r - p) p ys)
 
 pub added_then : (at p r : ℕ) (a b bs bs₁ bs₂ : List ℕ) → Added at p a bs bs₁ → Added p r b bs₁ bs₂ → Added at r (a ++ b) bs bs₂
 added_then at p r a b bs bs₁ bs₂ x y = record {
   next = omega (arith, x.next, y.next, length-append a b);
   front = y.front ∙ ap (λ (f : List ℕ). f ++ b) x.front ∙ append_assoc (take at bs) a b;
-  beyond = y.beyond ∙ drop-on p r bs₁ bs (omega (arith, y.next)) x.beyond;
+  beyond = y.beyond ∙ drop_on p r bs₁ bs (omega (arith, y.next)) x.beyond;
   long = y.long ∙ x.long;
 }
 
-pub added-byte : (at : ℕ) (v : ℕ) (bs : List ℕ) → at < length bs → Added at (suc at) (v ∷ []) bs (set bs at v)
-added-byte at v bs h = record {
+pub added_byte : (at : ℕ) (v : ℕ) (bs : List ℕ) → at < length bs → Added at (suc at) (v ∷ []) bs (set bs at v)
+added_byte at v bs h = record {
   next = omega arith;
   front = take-suc-set bs at v h;
   beyond = drop-set-lt (suc at) bs at v (omega arith);
@@ -37,7 +37,7 @@ pub copied_more : (at i : ℕ) (new bs bs' : List ℕ) → i < length new → at
 copied_more at i new bs bs' h room x =
     subst (λ (r : ℕ). Added at r (take (suc i) new) bs (set bs' (at + i) (get_or new i 0))) (omega arith)
     (subst (λ (w : List ℕ). Added at (suc (at + i)) w bs (set bs' (at + i) (get_or new i 0))) (sym (take-suc new i 0 h))
-    (added_then at (at + i) (suc (at + i)) (take i new) (get_or new i 0 ∷ []) bs bs' (set bs' (at + i) (get_or new i 0)) x (added-byte (at + i) (get_or new i 0) bs' (omega (arith, x.long)))))
+    (added_then at (at + i) (suc (at + i)) (take i new) (get_or new i 0 ∷ []) bs bs' (set bs' (at + i) (get_or new i 0)) x (added_byte (at + i) (get_or new i 0) bs' (omega (arith, x.long)))))
 
 pub copied_none : (at : ℕ) (new bs : List ℕ) → Added at (at + 0) (take 0 new) bs bs
 copied_none at new bs = subst (λ (r : ℕ). Added at r [] bs bs) (omega arith) (added_none at bs)

@@ -3,58 +3,58 @@ use mathlib.Core.Bool.{Bool}
 use mathlib.Core.List.{List, ◌++◌, append-nil}
 use mathlib.Core.Path.{◌≡◌, refl, sym, ◌∙◌, ap, subst}
 use Prim.Native.Nat.{ℕ, zero, suc, ◌+◌, ◌-◌, ◌*◌, ◌<◌, ◌≤◌}
-use native.Mathlib.Nat.{add-zero, add-suc}
+use native.Mathlib.Nat.{add-zero, add_suc}
 use native.Mathlib.Omega.{arith}
 use native.Mathlib.Decide.{dec_lt}
 use lib.ListN.{length, get_or}
-use Rattle.stations.specs.Sets.{Set, ◌is-in◌, ◌not-in◌, ◌without◌, only, size}
+use Rattle.stations.specs.Sets.{Set, ◌is_in◌, ◌not_in◌, ◌without◌, only, size}
 use Rattle.stations.specs.Answers.{Least}
 use Rattle.stations.proofs.Bools.{never}
-use Rattle.stations.proofs.Counting.{size-add, size-ext, size-minus-one}
-use Rattle.stations.proofs.Members.{less-same, lost-without, off-without, is-only}
-use Rattle.lines.specs.Lines.{labelled, serial-if, serials-of, Added}
-use Rattle.lines.proofs.Decimal.{decimal-length}
+use Rattle.stations.proofs.Counting.{size-add, size_ext, size_minus_one}
+use Rattle.stations.proofs.Members.{less_same, lost_without, off_without, is_only}
+use Rattle.lines.specs.Lines.{labelled, serial_if, serials_of, Added}
+use Rattle.lines.proofs.Decimal.{decimal_length}
 use Rattle.lines.proofs.Adding.{added_none, added_then}
 
 -- one station
-pub one-serial : (at r x y : ℕ) (page page' : List ℕ) → x ≡ y → x < 4294967296 → Added at r (labelled " " x) page page'
+pub one_serial : (at r x y : ℕ) (page page' : List ℕ) → x ≡ y → x < 4294967296 → Added at r (labelled " " x) page page'
     → Added at r (labelled " " y) page page' × (r ≤ at + 11)
-one-serial at r x y page page' q h a =
-    (subst (λ (z : ℕ). Added at r (labelled " " z) page page') q a, omega (arith, a.next, decimal-length 19 x 9 (omega arith)))
+one_serial at r x y page page' q h a =
+    (subst (λ (z : ℕ). Added at r (labelled " " z) page page') q a, omega (arith, a.next, decimal_length 19 x 9 (omega arith)))
 
 -- stations that the set has not add no serial
-serials-skip : (serials : List ℕ) (s : Set) (j k : ℕ) → ((x : ℕ) → j ≤ x → x < j + k → x not_in s) → serials-of (j + k) serials s ≡ serials-of j serials s
-unfolding serials-of
-serials-skip serials s j zero h = rw (add-zero j)
-serials-skip serials s j (suc k) h =
-    ap (λ (i : ℕ). serials-of i serials s) (add-suc j k)
-    ∙ ap (λ (b : Bool). serials-of (j + k) serials s ++ serial-if b (get_or serials (j + k) 0)) (h (j + k) (omega arith) (omega arith))
-    ∙ append-nil (serials-of (j + k) serials s)
-    ∙ serials-skip serials s j k (λ x l g. h x l (omega arith))
+serials_skip : (serials : List ℕ) (s : Set) (j k : ℕ) → ((x : ℕ) → j ≤ x → x < j + k → x not_in s) → serials_of (j + k) serials s ≡ serials_of j serials s
+unfolding serials_of
+serials_skip serials s j zero h = rw (add-zero j)
+serials_skip serials s j (suc k) h =
+    ap (λ (i : ℕ). serials_of i serials s) (add_suc j k)
+    ∙ ap (λ (b : Bool). serials_of (j + k) serials s ++ serial_if b (get_or serials (j + k) 0)) (h (j + k) (omega arith) (omega arith))
+    ∙ append-nil (serials_of (j + k) serials s)
+    ∙ serials_skip serials s j k (λ x l g. h x l (omega arith))
 
-serials-past : (serials : List ℕ) (s : Set) (j m : ℕ) → j ≤ m → ((x : ℕ) → j ≤ x → x < m → x not_in s) → serials-of m serials s ≡ serials-of j serials s
-serials-past serials s j m l h =
-    ap (λ (i : ℕ). serials-of i serials s) {x = m} {y = j + (m - j)} (omega arith) ∙ serials-skip serials s j (m - j) (λ x g i. h x g (omega arith))
+serials_past : (serials : List ℕ) (s : Set) (j m : ℕ) → j ≤ m → ((x : ℕ) → j ≤ x → x < m → x not_in s) → serials_of m serials s ≡ serials_of j serials s
+serials_past serials s j m l h =
+    ap (λ (i : ℕ). serials_of i serials s) {x = m} {y = j + (m - j)} (omega arith) ∙ serials_skip serials s j (m - j) (λ x g i. h x g (omega arith))
 
 -- the stations below j are no more than those below m
-size-up : (j m : ℕ) (s : Set) → j ≤ m → size j s ≤ size m s
-size-up j m s h = subst (λ (i : ℕ). size j s ≤ size i s) {x = j + (m - j)} (omega arith) (omega (arith, size-add j (m - j) s))
+size_up : (j m : ℕ) (s : Set) → j ≤ m → size j s ≤ size m s
+size_up j m s h = subst (λ (i : ℕ). size j s ≤ size i s) {x = j + (m - j)} (omega arith) (omega (arith, size-add j (m - j) s))
 
-size-next : (j : ℕ) (s : Set) → j is-in s → size (suc j) s ≡ suc (size j s)
+size_next : (j : ℕ) (s : Set) → j is_in s → size (suc j) s ≡ suc (size j s)
 unfolding size
-size-next j s h = rw h (omega arith)
+size_next j s h = rw h (omega arith)
 
 -- the serials of the stations below `done` stand from `at` on, the next goes to `place`, and `rest` has the set's other stations
 pub record Spelled (at : ℕ) (serials : List ℕ) (s : Set) (page : List ℕ) (place : ℕ) (page' : List ℕ) (rest : Set) : Type 0 where
   pub done : ℕ
   pub within : done ≤ length serials
-  pub added : Added at place (serials-of done serials s) page page'
+  pub added : Added at place (serials_of done serials s) page page'
   pub room : place ≤ at + size done s * 11
   pub gone : (x : ℕ) → x < done → x not_in rest
   pub left : (x : ℕ) → done ≤ x → rest x ≡ s x
 
 pub spelled_none : (at : ℕ) (serials : List ℕ) (s : Set) (page : List ℕ) → Spelled at serials s page at page s
-unfolding serials-of size
+unfolding serials_of size
 spelled_none at serials s page = record {
   done = 0;
   within = omega arith;
@@ -66,10 +66,10 @@ spelled_none at serials s page = record {
 
 module _ (at : ℕ) (serials : List ℕ) (s : Set) (page : List ℕ) (place : ℕ) (page' : List ℕ) (rest : Set) (p : Spelled at serials s page place page' rest) (few : length serials ≤ 256) where
   -- none of the rest has a serial
-  pub spelled-all : ((x : ℕ) → x < length serials → x not_in rest) → Added at place (serials-of (length serials) serials s) page page' × (place ≤ at + size 256 s * 11)
-  spelled-all h = (
-    subst (λ (w : List ℕ). Added at place w page page') (sym (serials-past serials s p.done (length serials) p.within (λ x l g. sym (p.left x l) ∙ h x g))) p.added,
-    omega (arith, p.room, size-up p.done 256 s (omega (arith, p.within))),
+  pub spelled_all : ((x : ℕ) → x < length serials → x not_in rest) → Added at place (serials_of (length serials) serials s) page page' × (place ≤ at + size 256 s * 11)
+  spelled_all h = (
+    subst (λ (w : List ℕ). Added at place w page page') (sym (serials_past serials s p.done (length serials) p.within (λ x l g. sym (p.left x l) ∙ h x g))) p.added,
+    omega (arith, p.room, size_up p.done 256 s (omega (arith, p.within))),
   )
 
   -- j is the smallest of the rest
@@ -81,35 +81,35 @@ module _ (at : ℕ) (serials : List ℕ) (s : Set) (page : List ℕ) (place : �
         go (yes g) = never (rest j) l.mine (p.gone j g)
         go (no g) = omega arith
 
-    mine : j is-in s
+    mine : j is_in s
     mine = sym (p.left j reached) ∙ l.mine
 
     more : size p.done s + 1 ≤ size (suc j) s
-    more = omega (arith, size-up p.done j s reached, size-next j s mine)
+    more = omega (arith, size_up p.done j s reached, size_next j s mine)
 
-    pub spelled-room : {words : ℕ} → at + size 256 s * 11 + 10 ≤ words → place + 21 ≤ words
-    spelled-room h = omega (arith, p.room, more, size-up (suc j) 256 s (omega arith))
+    pub spelled_room : {words : ℕ} → at + size 256 s * 11 + 10 ≤ words → place + 21 ≤ words
+    spelled_room h = omega (arith, p.room, more, size_up (suc j) 256 s (omega arith))
 
-    pub spelled-more : (next : ℕ) (page'' : List ℕ) (rest' : Set) → Added place next (labelled " " (get_or serials j 0)) page' page'' → next ≤ place + 11
+    pub spelled_more : (next : ℕ) (page'' : List ℕ) (rest' : Set) → Added place next (labelled " " (get_or serials j 0)) page' page'' → next ≤ place + 11
         → ((x : ℕ) → rest' x ≡ (rest without only j) x) → Spelled at serials s page next page'' rest'
-    unfolding serials-of
-    spelled-more next page'' rest' a h e = record {
+    unfolding serials_of
+    spelled_more next page'' rest' a h e = record {
       done = suc j;
       within = omega arith;
       added =
           subst (λ (w : List ℕ). Added at next w page page'')
-          (ap (λ (w : List ℕ). w ++ labelled " " (get_or serials j 0)) (sym (serials-past serials s p.done j reached (λ x g i. sym (p.left x g) ∙ l.below x i)))
-          ∙ ap (λ (b : Bool). serials-of j serials s ++ serial-if b (get_or serials j 0)) (sym mine))
-          (added_then at place next (serials-of p.done serials s) (labelled " " (get_or serials j 0)) page page' page'' p.added a);
+          (ap (λ (w : List ℕ). w ++ labelled " " (get_or serials j 0)) (sym (serials_past serials s p.done j reached (λ x g i. sym (p.left x g) ∙ l.below x i)))
+          ∙ ap (λ (b : Bool). serials_of j serials s ++ serial_if b (get_or serials j 0)) (sym mine))
+          (added_then at place next (serials_of p.done serials s) (labelled " " (get_or serials j 0)) page page' page'' p.added a);
       room = omega (arith, p.room, h, more);
       gone = λ x g. e x ∙ out x g (dec_lt x j);
-      left = λ x g. e x ∙ less-same rest j x (λ i. omega arith) ∙ p.left x (omega (arith, reached));
+      left = λ x g. e x ∙ less_same rest j x (λ i. omega arith) ∙ p.left x (omega (arith, reached));
     }
       where
         out : (x : ℕ) → x < suc j → Dec (x < j) → x not_in rest without only j
-        out x g (yes i) = off-without rest (only j) x (l.below x i)
-        out x g (no i) = let q : j ≡ x = omega arith in subst (λ (y : ℕ). y not_in rest without only j) q (lost-without rest (only j) j (is-only j))
+        out x g (yes i) = off_without rest (only j) x (l.below x i)
+        out x g (no i) = let q : j ≡ x = omega arith in subst (λ (y : ℕ). y not_in rest without only j) q (lost_without rest (only j) j (is_only j))
 
 -- the rest less one of its stations
 pub fewer : (s s' : Set) (j : ℕ) → Least s j → ((x : ℕ) → s' x ≡ (s without only j) x) → size 256 s' < size 256 s
-fewer s s' j l e = omega (arith, size-minus-one 256 s j l.small l.mine, size-ext 256 s' (s without only j) (λ x i. e x))
+fewer s s' j l e = omega (arith, size_minus_one 256 s j l.small l.mine, size_ext 256 s' (s without only j) (λ x i. e x))

@@ -2,10 +2,10 @@
 --   text s                          the bytes of a quoted text
 --   decimal x                       a number in decimal
 --   labelled s x                    a text and a number behind it
---   first-line v n m                the mark, the version, how many stations and links
---   group-line k place serials s    the level, the place in its list, the serials of the stations of s, rising
+--   first_line v n m                the mark, the version, how many stations and links
+--   group_line k place serials s    the level, the place in its list, the serials of the stations of s, rising
 --   last_line k                     the last level that has a group
---   refused-line r                  the one line of a refused survey
+--   refused_line r                  the one line of a refused survey
 --   Line bs                         bytes up to a line break, the only one
 --   Added at r new bs bs'           bs became bs' by the bytes `new` from byte `at` on, and r is the place after them
 use Rattle.std.specs.Prelude.{Bool, true, false, cond, List, [], ◌∷◌, ◌++◌, ◌≢◌, ◌≡◌, ℕ, zero, suc, ◌+◌, ◌/◌, ◌%◌, ltb, length, get_or, take, drop}
@@ -25,38 +25,38 @@ abbrev pub digit : ℕ → ℕ
 digit d = 48 + d
 
 -- the number in decimal, with no zero in front; up to so many digits behind the first
-unfoldable pub decimal-in : ℕ → ℕ → List ℕ
-decimal-in zero x = digit x ∷ []
-decimal-in (suc more) x = cond (ltb x 10) (digit x ∷ []) (decimal-in more (x / 10) ++ (digit (x % 10) ∷ []))
+unfoldable pub decimal_in : ℕ → ℕ → List ℕ
+decimal_in zero x = digit x ∷ []
+decimal_in (suc more) x = cond (ltb x 10) (digit x ∷ []) (decimal_in more (x / 10) ++ (digit (x % 10) ∷ []))
 
 -- a 64-bit number has at most 20 digits
 abbrev pub decimal : ℕ → List ℕ
-decimal x = decimal-in 19 x
+decimal x = decimal_in 19 x
 
 -- a text and a number behind it
 abbrev pub labelled : String → ℕ → List ℕ
 labelled s x = text s ++ decimal x
 
-abbrev pub serial-if : Bool → ℕ → List ℕ
-serial-if true x = labelled " " x
-serial-if false x = []
+abbrev pub serial_if : Bool → ℕ → List ℕ
+serial_if true x = labelled " " x
+serial_if false x = []
 
 -- the serials of the stations of a set among the stations 0 to n - 1, rising, each behind a space
-unfoldable pub serials-of : ℕ → List ℕ → Set → List ℕ
-serials-of zero serials s = []
-serials-of (suc n) serials s = serials-of n serials s ++ serial-if (s n) (get_or serials n 0)
+unfoldable pub serials_of : ℕ → List ℕ → Set → List ℕ
+serials_of zero serials s = []
+serials_of (suc n) serials s = serials_of n serials s ++ serial_if (s n) (get_or serials n 0)
 
-abbrev pub first-line : ℕ → ℕ → ℕ → List ℕ
-first-line v n m = labelled "RLM " v ++ labelled " stations " n ++ labelled " links " m ++ text "\n"
+abbrev pub first_line : ℕ → ℕ → ℕ → List ℕ
+first_line v n m = labelled "RLM " v ++ labelled " stations " n ++ labelled " links " m ++ text "\n"
 
-abbrev pub group-line : ℕ → ℕ → List ℕ → Set → List ℕ
-group-line k place serials s = decimal k ++ labelled " " place ++ serials-of (length serials) serials s ++ text "\n"
+abbrev pub group_line : ℕ → ℕ → List ℕ → Set → List ℕ
+group_line k place serials s = decimal k ++ labelled " " place ++ serials_of (length serials) serials s ++ text "\n"
 
 abbrev pub last_line : ℕ → List ℕ
 last_line k = labelled "end " k ++ text "\n"
 
-abbrev pub refused-line : ℕ → List ℕ
-refused-line r = labelled "refused " r ++ text "\n"
+abbrev pub refused_line : ℕ → List ℕ
+refused_line r = labelled "refused " r ++ text "\n"
 
 -- no byte of it is a line break
 abbrev pub Unbroken : List ℕ → Type 0

@@ -3,7 +3,7 @@
 ghost use Rattle.std.specs.Prelude.{◌≡◌, ◌+◌, ◌*◌, ◌<◌, ◌≤◌, ◌++◌, length, get_or};
 ghost use Rattle.stations.specs.Sets.{size};
 ghost use Rattle.stations.specs.Words.{members};
-ghost use Rattle.lines.specs.Lines.{decimal, labelled, serials-of, first-line, group-line, last_line, refused-line, Added};
+ghost use Rattle.lines.specs.Lines.{decimal, labelled, serials_of, first_line, group_line, last_line, refused_line, Added};
 
 use stations::{Found, StationSet};
 
@@ -49,7 +49,7 @@ fn put_station(page: &mut [u8], at: usize, serials: &[u32], j: usize) -> usize
 // The serials of a set's stations, rising. A station beyond the serials has none, nor has a later one.
 fn put_serials(page: &mut [u8], at: usize, serials: &[u32], row: StationSet) -> usize
     requires { (length serials.now ≤ 256) × (at + size 256 (members row) * 11 + 10 ≤ length page.old) }
-    ensures { Added at result (serials-of (length serials.now) serials.now (members row)) page.old page.new × (result ≤ at + size 256 (members row) * 11) }
+    ensures { Added at result (serials_of (length serials.now) serials.now (members row)) page.old page.new × (result ≤ at + size 256 (members row) * 11) }
 {
     let mut place = at;
     let mut rest = row;
@@ -80,7 +80,7 @@ pub fn put_group(
     row: StationSet,
 ) -> usize
     requires { (k < 100) × (place < 1000) × (length serials.now ≤ 256) × (at + size 256 (members row) * 11 + 60 ≤ length page.old) }
-    ensures { Added at result (group-line k place serials.now (members row)) page.old page.new × (result ≤ at + 7 + size 256 (members row) * 11) }
+    ensures { Added at result (group_line k place serials.now (members row)) page.old page.new × (result ≤ at + 7 + size 256 (members row) * 11) }
 {
     let p = put_number(page, at, k as u64);
     let q = put_labelled(page, p, &[b' '], place as u64);
@@ -91,7 +91,7 @@ pub fn put_group(
 // The first line: the mark, the version, the number of stations, the number of links.
 pub fn put_first(page: &mut [u8], version: usize, n: usize, m: usize) -> usize
     requires { 100 ≤ length page.old }
-    ensures { Added 0 result (first-line version n m) page.old page.new × (result ≤ 100) }
+    ensures { Added 0 result (first_line version n m) page.old page.new × (result ≤ 100) }
 {
     let p = put_labelled(page, 0, &[b'R', b'L', b'M', b' '], version as u64);
     let q = put_labelled(
@@ -121,7 +121,7 @@ pub fn put_last(page: &mut [u8], at: usize, k: usize) -> usize
 // The line of a refused survey.
 pub fn put_refused(page: &mut [u8], number: u64) -> usize
     requires { 40 ≤ length page.old }
-    ensures { Added 0 result (refused-line number) page.old page.new × (result ≤ 40) }
+    ensures { Added 0 result (refused_line number) page.old page.new × (result ≤ 40) }
 {
     let p = put_labelled(
         page,

@@ -8,14 +8,14 @@ use Prim.Native.Nat.{ℕ, zero, suc, ◌+◌, ◌<◌}
 use native.Mathlib.Nat.{not-suc-le-zero, lt-suc_self}
 use native.Mathlib.Decide.{ℕ_discrete, map_dec}
 use native.Mathlib.Omega.{arith}
-use Rattle.stations.specs.Sets.{Set, ◌is-in◌, ◌not-in◌, ◌cut◌, size}
+use Rattle.stations.specs.Sets.{Set, ◌is_in◌, ◌not_in◌, ◌cut◌, size}
 use Rattle.linkage.specs.Net.{Net, Menger}
 use Rattle.linkage.specs.Linkage.{Arc, idle, inward, first, Linkage, marked, Cause, near, over, Search, Hole, Closed}
 use Rattle.stations.proofs.Bools.{test, not_so}
-use Rattle.stations.proofs.Counting.{size-le, size-sub, any_below}
-use Rattle.linkage.proofs.Chains.{idle-linkage}
-use Rattle.linkage.proofs.Cuts.{cut-exact}
-use Rattle.linkage.proofs.Search.{store, stored, size-more, search-none, search-add, hole-start, earlier, hole-move, hole-finish}
+use Rattle.stations.proofs.Counting.{size_le, size-sub, any_below}
+use Rattle.linkage.proofs.Chains.{idle_linkage}
+use Rattle.linkage.proofs.Cuts.{cut_exact}
+use Rattle.linkage.proofs.Search.{store, stored, size_more, search_none, search_add, hole_start, earlier, hole_move, hole_finish}
 
 either : {P Q : Type 0} → Dec P → Dec Q → Dec (P ⊎ Q)
 either (yes p) d = yes (inl p)
@@ -32,7 +32,7 @@ module _ (N : Net) where
       (either (ℕ_discrete u w) (either (Dec.and (Bool-discrete (D u) true) (Bool-discrete (N.link u w) true)) (Dec.and (ℕ_discrete u N.mark) (Bool-discrete (N.starts w) true))))
 
   module _ (hold : ℕ → ℕ) {c : ℕ} (K : Linkage N D hold c) where
-    held : (w : ℕ) → w is-in D → hold w ≢ N.mark → hold w is-in D
+    held : (w : ℕ) → w is_in D → hold w ≢ N.mark → hold w is_in D
     held w m ne = elim (K.arc w m) [ idle e ↦ rw e m | inward u l ↦ u | first e l ↦ absurd (ne e) ]
 
     abbrev Greater : Type 0
@@ -43,20 +43,20 @@ module _ (N : Net) where
       fill : (k : ℕ) (p : ℕ → ℕ) (h : ℕ) → Hole N hold time In p h c → time h < k → Greater
       fill zero p h H l = absurd (not-suc-le-zero l)
       fill (suc k) p h H l = elim (ℕ_discrete (from h) N.mark) [
-        | yes e ↦ (store p h N.mark, hole-finish N hold from time In now S p (store p h N.mark) h H e (stored p h N.mark))
+        | yes e ↦ (store p h N.mark, hole_finish N hold from time In now S p (store p h N.mark) h H e (stored p h N.mark))
         | no ne ↦
-            fill k (store p h (p (from h))) (from h) (hole-move N hold from time In now S p (store p h (p (from h))) h H ne (stored p h (p (from h))))
+            fill k (store p h (p (from h))) (from h) (hole_move N hold from time In now S p (store p h (p (from h))) h H ne (stored p h (p (from h))))
             (omega (arith, (earlier N hold from time In now S h H.here ne).1))
       ]
 
       -- it may come into w
       abbrev Near : ℕ → Type 0
-      Near w = (g : ℕ) × Cause N hold (λ x. x is-in In) g w
+      Near w = (g : ℕ) × Cause N hold (λ x. x is_in In) g w
 
       abbrev Over : ℕ → ℕ → Type 0
-      Over w g = (g is-in In) × ((hold g is-in D) × Arc N (hold g) w)
+      Over w g = (g is_in In) × ((hold g is_in D) × Arc N (hold g) w)
 
-      small : (g : ℕ) → g is-in In → g < N.mark
+      small : (g : ℕ) → g is_in In → g < N.mark
       small g i = N.below g (S.within g i)
 
       near? : (w : ℕ) → Dec (Near w)
@@ -67,13 +67,13 @@ module _ (N : Net) where
 
       -- it goes on to w, or is at an end, or has come out of v
       abbrev Fresh : ℕ → Type 0
-      Fresh w = (w is-in D) × ((w not_in In) × Near w)
+      Fresh w = (w is_in D) × ((w not_in In) × Near w)
 
       abbrev Ends : ℕ → Type 0
-      Ends h = (h is-in In) × ((hold h is-in D) × (N.ends (hold h) ≡ true))
+      Ends h = (h is_in In) × ((hold h is_in D) × (N.ends (hold h) ≡ true))
 
       abbrev Left : ℕ → ℕ → Type 0
-      Left v h = (h is-in In) × ((hold h ≡ v) × (v is-in D))
+      Left v h = (h is_in In) × ((hold h ≡ v) × (v is_in D))
 
       fresh? : Dec ((w : ℕ) × (w < N.mark) × Fresh w)
       fresh? = any_below Fresh (λ w. Dec.and (Bool-discrete (D w) true) (Dec.and (Bool-discrete (In w) false) (near? w))) N.mark
@@ -87,7 +87,7 @@ module _ (N : Net) where
       outs : ℕ → Bool
       outs v = decide (left? v)
 
-      left : (v : ℕ) → v is-in outs → (h : ℕ) × (h < N.mark) × Left v h
+      left : (v : ℕ) → v is_in outs → (h : ℕ) × (h < N.mark) × Left v h
       unfolding outs
       left v m = (decide_iff (left? v)).0 m
 
@@ -102,7 +102,7 @@ module _ (N : Net) where
         stop = λ v m. not_so _ (λ l. let (h, k, (i, (e, d))) = left v m in ne (h, k, (i, (ap D e ∙ d, rw e l))));
       }
         where
-          come : (w : ℕ) → w is-in D → Near w → w is-in In
+          come : (w : ℕ) → w is_in D → Near w → w is_in In
           come w d r = elim (test (In w)) [ inl i ↦ i | inr o ↦ absurd (nf (w, N.below w d, (d, (o, r)))) ]
 
     -- it ends closed, or finds a greater linkage, within as many steps as there are stations
@@ -113,7 +113,7 @@ module _ (N : Net) where
         → Dec ((w : ℕ) × (w < N.mark) × Fresh from time In now S w) → Dec ((h : ℕ) × (h < N.mark) × Ends from time In now S h)
         → Outcome ⊎ ((w : ℕ) × (w < N.mark) × Fresh from time In now S w)
     look from time In now S f (yes (h, _, (i, (d, l)))) =
-        inl (inr (fill from time In now S (suc (time h)) hold h (hole-start N hold from time In now S h i d l K) (lt-suc_self (time h))))
+        inl (inr (fill from time In now S (suc (time h)) hold h (hole_start N hold from time In now S h i d l K) (lt-suc_self (time h))))
     look from time In now S (yes f) (no e) = inr f
     look from time In now S (no f) (no e) = inl (inl (In, outs from time In now S, closed from time In now S f e))
 
@@ -122,20 +122,20 @@ module _ (N : Net) where
     explore (suc k) from time In now S b = elim (look from time In now S (fresh? from time In now S) (ends? from time In now S)) [
       | inl r ↦ r
       | inr (w, l, (d, (o, (g, r)))) ↦ explore k (store from w g) (store time w now) (store In w true) (suc now)
-          (search-add N hold from (store from w g) time (store time w now) In (store In w true) now w g S d o r (stored from w g) (stored time w now) (stored In w true))
-          (omega (arith, size-more In (store In w true) w N.mark l o (stored In w true)))
+          (search_add N hold from (store from w g) time (store time w now) In (store In w true) now w g S d o r (stored from w g) (stored time w now) (stored In w true))
+          (omega (arith, size_more In (store In w true) w N.mark l o (stored In w true)))
     ]
 
 -- ---- the theorem
 
 grow : (N : Net) (k : ℕ) (hold : ℕ → ℕ) (c : ℕ) → Linkage N N.inner hold c → N.mark < k + c → Menger N
-grow N zero hold c K l = absurd (omega (arith, K.starts, size-le N.mark (N.inner cut marked N hold)))
+grow N zero hold c K l = absurd (omega (arith, K.starts, size_le N.mark (N.inner cut marked N hold)))
 grow N (suc k) hold c K l =
-    let none = search-none N hold (λ w. w) (λ w. w) (λ w. false) 0 (λ w. refl) in
+    let none = search_none N hold (λ w. w) (λ w. w) (λ w. false) 0 (λ w. refl) in
     elim (explore N hold K (suc (size N.mark N.inner)) (λ w. w) (λ w. w) (λ w. false) 0 none (omega arith)) [
-      | inl (In, Out, C) ↦ cut-exact N hold In Out C K
+      | inl (In, Out, C) ↦ cut_exact N hold In Out C K
       | inr (p, J) ↦ grow N k p (suc c) J (omega arith)
     ]
 
 pub menger : (N : Net) → Menger N
-menger N = grow N (suc N.mark) (λ w. w) 0 (idle-linkage N (λ w. w) (λ w m. refl)) (omega arith)
+menger N = grow N (suc N.mark) (λ w. w) 0 (idle_linkage N (λ w. w) (λ w m. refl)) (omega arith)

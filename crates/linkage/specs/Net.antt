@@ -6,7 +6,7 @@
 --   Menger N            as many chains, no two of which share a station, as a loss that leaves none has stations
 use Rattle.std.specs.Prelude.{◌≡◌, true, ℕ, ◌<◌}
 use mathlib.Core.List.{List, [], ◌∷◌, Memᴰ}
-use Rattle.stations.specs.Sets.{Set, ◌is-in◌, ◌part-of◌, ◌without◌, Below, size}
+use Rattle.stations.specs.Sets.{Set, ◌is_in◌, ◌part_of◌, ◌without◌, Below, size}
 use Rattle.mesh.specs.Mesh.{Links}
 
 -- The stations `inner` are numbers below `mark`. Nothing is asked of the links: they need not go both ways. Nothing is asked of starts and ends
@@ -22,12 +22,12 @@ pub record Net : Type 0 where
 -- from x over the stations of l, all in X, to an end
 abbrev pub Onward : Net → Set → ℕ → List ℕ → Type 0
 Onward N X x [] = N.ends x ≡ true
-Onward N X x (y ∷ l) = (y is-in X) × (N.link x y ≡ true) × Onward N X y l
+Onward N X x (y ∷ l) = (y is_in X) × (N.link x y ≡ true) × Onward N X y l
 
 -- a chain from a start to an end, over at least one station, all in X
 abbrev pub Chain : Net → Set → List ℕ → Type 0
 Chain N X [] = ⊥
-Chain N X (y ∷ l) = (y is-in X) × (N.starts y ≡ true) × Onward N X y l
+Chain N X (y ∷ l) = (y is_in X) × (N.starts y ≡ true) × Onward N X y l
 
 -- k chains, no two of which share a station
 pub record Family (N : Net) (k : ℕ) : Type 0 where

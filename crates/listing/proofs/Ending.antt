@@ -1,6 +1,6 @@
 -- How a listing begins and ends. It begins with the set itself in row 0 (begun). When no row is unfinished, the rows are what was sought; the unused
 -- rows are cleared and the others put in order, which changes no set (ended). A set of k stations or fewer has nothing that holds (nothing). Within
--- the set of all stations the list is the list of the groups (listed-groups).
+-- the set of all stations the list is the list of the groups (listed_groups).
 use mathlib.Core.List.{List}
 use mathlib.Core.Path.{◌≡◌, refl, sym, ap, ◌∙◌, subst}
 use Prim.Native.Nat.{ℕ, ◌+◌, ◌*◌, ◌<◌, ◌≤◌}
@@ -8,32 +8,32 @@ use native.Mathlib.Decide.{dec_lt}
 use native.Mathlib.Omega.{arith}
 use lib.ListN.{length}
 use borrow.Author.Tests.{ltb-true}
-use Rattle.stations.specs.Sets.{Set, ◌is-in◌, ◌part-of◌, Below, stations, ◌cut◌, size, Before}
+use Rattle.stations.specs.Sets.{Set, ◌is_in◌, ◌part_of◌, Below, stations, ◌cut◌, size, Before}
 use Rattle.stations.proofs.Members.{of_cut}
-use Rattle.stations.proofs.Counting.{size-sub, size-past}
-use Rattle.stations.proofs.Order.{before-not-self}
+use Rattle.stations.proofs.Counting.{size-sub, size_past}
+use Rattle.stations.proofs.Order.{before_not_self}
 use Rattle.mesh.specs.Mesh.{Links, Holds, R, Listed}
 use Rattle.mesh.specs.Table.{linked}
-use Rattle.mesh.proofs.Bound.{total, weight, rows-weight, heavy, total-inject}
-use Rattle.mesh.proofs.Pieces.{begin, pieces-same, found}
+use Rattle.mesh.proofs.Bound.{total, weight, rows_weight, heavy, total_inject}
+use Rattle.mesh.proofs.Pieces.{begin, pieces_same, found}
 use Rattle.mesh.proofs.Rows.{Found, same_row, rows}
-use Rattle.mesh.proofs.Past.{holds-to, holds-from}
+use Rattle.mesh.proofs.Past.{holds_to, holds_from}
 use Rattle.listing.specs.List.{set_at, ListedIn, Asked, Listing}
 use Rattle.listing.specs.Rows.{Kept, Stored, Cleared, Different, Sorted}
 use Rattle.listing.specs.Steps.{State}
-use Rattle.listing.proofs.Lists.{same-words}
+use Rattle.listing.proofs.Lists.{same_words}
 use Rattle.listing.proofs.Turning.{rows_few}
 
 -- the rows of a search that is over
-pub state-found : {t l : List ℕ} {k w : ℕ} {D : Set} {g : ℕ} → State t k w D l g g → Found (linked t) 256 k D g (set_at l)
-state-found {t = t} {l = l} {k = k} {w = w} {D = D} {g = g} s = found (linked t) 256 k w D g (set_at l) s.pieces s.firm
+pub state_found : {t l : List ℕ} {k w : ℕ} {D : Set} {g : ℕ} → State t k w D l g g → Found (linked t) 256 k D g (set_at l)
+state_found {t = t} {l = l} {k = k} {w = w} {D = D} {g = g} s = found (linked t) 256 k w D g (set_at l) s.pieces s.firm
 
 module _ {t : List ℕ} {D : Set} {k : ℕ} {l : List ℕ} (a : Asked t D k l) where
   abbrev most : ℕ
   most = weight k (size 256 D)
 
   room : most * 4 ≤ length l
-  room = omega (arith, a.room, ap (λ (x : ℕ). x * 4) (rows-weight (size 256 D) k))
+  room = omega (arith, a.room, ap (λ (x : ℕ). x * 4) (rows_weight (size 256 D) k))
 
   -- nothing of k stations or fewer holds
   pub nothing : size 256 D ≤ k → Listing t D k l l 0
@@ -48,7 +48,7 @@ module _ {t : List ℕ} {D : Set} {k : ℕ} {l : List ℕ} (a : Asked t D k l) w
     };
     most = omega arith;
     weigh = omega arith;
-    clear = λ p h m. absurd (omega (arith, rows-weight (size 256 D) k));
+    clear = λ p h m. absurd (omega (arith, rows_weight (size 256 D) k));
     past = λ p h. refl;
     long = refl;
   }
@@ -57,8 +57,8 @@ module _ {t : List ℕ} {D : Set} {k : ℕ} {l : List ℕ} (a : Asked t D k l) w
     some : 1 ≤ most
     some = heavy k (size 256 D) large
 
-    pub first-room : 0 * 4 + 4 ≤ length l
-    first-room = omega (arith, some, room)
+    pub first_room : 0 * 4 + 4 ≤ length l
+    first_room = omega (arith, some, room)
 
     module _ {l1 : List ℕ} (st : Stored l 0 D l1) where
       pub begun : State t k most D l1 0 1
@@ -67,16 +67,16 @@ module _ {t : List ℕ} {D : Set} {k : ℕ} {l : List ℕ} (a : Asked t D k l) w
         mesh = a.mesh;
         room = omega (arith, room, st.kept.long);
         upto = omega arith;
-        pieces = pieces-same (linked t) 256 k most D 1 (λ i. D) (set_at l1) (begin (linked t) 256 k D) (λ i h. sym (row i h));
+        pieces = pieces_same (linked t) 256 k most D 1 (λ i. D) (set_at l1) (begin (linked t) 256 k D) (λ i h. sym (row i h));
         large = λ i h. rw (row i h) large;
         firm = λ i h. absurd (omega arith);
       }
         where
           row : (i : ℕ) → i < 1 → set_at l1 i ≡ D
-          row i h = ap (set_at l1) (zero-only i h) ∙ st.here
+          row i h = ap (set_at l1) (zero_only i h) ∙ st.here
             where
-              zero-only : (x : ℕ) → x < 1 → x ≡ 0
-              zero-only x m = omega arith
+              zero_only : (x : ℕ) → x < 1 → x ≡ 0
+              zero_only x m = omega arith
 
       module _ {l2 : List ℕ} {g : ℕ} (s : State t k most D l2 g g) (kept : Kept most l1 l2) where
         pub clear_room : (m : ℕ) → m ≡ most → (g ≤ m) × (m * 4 ≤ length l2)
@@ -87,13 +87,13 @@ module _ {t : List ℕ} {D : Set} {k : ℕ} {l : List ℕ} (a : Asked t D k l) w
           cl = subst (λ (x : ℕ). Cleared l2 g x l3) same zero
 
           row_same : (i : ℕ) → i < g → set_at l3 i ≡ set_at l2 i
-          row_same i h = same-words l2 l3 i (λ p x y. cl.before p (omega arith))
+          row_same i h = same_words l2 l3 i (λ p x y. cl.before p (omega arith))
 
-          pub sort-room : (g * 4 ≤ length l3) × Different g (set_at l3)
-          sort-room = (
+          pub sort_room : (g * 4 ≤ length l3) × Different g (set_at l3)
+          sort_room = (
             omega (arith, rows_few s, s.room, cl.kept.long),
-            λ i j h m e. same_row (linked t) 256 k D g (set_at l2) (state-found s) i j h m
-                (λ x p. subst (λ (z : Set). x is-in z) (sym (row_same i h) ∙ e ∙ row_same j m) p),
+            λ i j h m e. same_row (linked t) 256 k D g (set_at l2) (state_found s) i j h m
+                (λ x p. subst (λ (z : Set). x is_in z) (sym (row_same i h) ∙ e ∙ row_same j m) p),
           )
 
           module _ {l4 : List ℕ} (so : Sorted l3 g l4) where
@@ -105,8 +105,8 @@ module _ {t : List ℕ} {D : Set} {k : ℕ} {l : List ℕ} (a : Asked t D k l) w
             differ i j h m c = by (dec_lt i j) (dec_lt j i)
               where
                 by : Dec (i < j) → Dec (j < i) → i ≡ j
-                by (yes w) _ = absurd (before-not-self (set_at l4 j) (subst (λ (z : Set). Before z (set_at l4 j)) c (so.order i j w m)))
-                by (no _) (yes w) = absurd (before-not-self (set_at l4 j) (subst (λ (z : Set). Before (set_at l4 j) z) c (so.order j i w h)))
+                by (yes w) _ = absurd (before_not_self (set_at l4 j) (subst (λ (z : Set). Before z (set_at l4 j)) c (so.order i j w m)))
+                by (no _) (yes w) = absurd (before_not_self (set_at l4 j) (subst (λ (z : Set). Before (set_at l4 j) z) c (so.order j i w h)))
                 by (no v) (no w) = omega arith
 
             listed : ListedIn (linked t) 256 k D g (set_at l4)
@@ -132,7 +132,7 @@ module _ {t : List ℕ} {D : Set} {k : ℕ} {l : List ℕ} (a : Asked t D k l) w
 
             -- different rows came from different rows, so they weigh no more together
             lighter : total g (λ i. weight k (size 256 (set_at l4 i))) ≤ total g (λ i. weight k (size 256 (set_at l2 i)))
-            lighter = total-inject g g (λ i. weight k (size 256 (set_at l4 i))) (λ i. weight k (size 256 (set_at l2 i))) (λ i h. (came i h).0)
+            lighter = total_inject g g (λ i. weight k (size 256 (set_at l4 i))) (λ i. weight k (size 256 (set_at l2 i))) (λ i h. (came i h).0)
                 (λ i h. ((came i h).1, ap (λ (z : Set). weight k (size 256 z)) (came i h).2))
                 (λ i j h m c. differ i j h m ((came i h).2 ∙ ap (set_at l2) c ∙ sym (came j m).2))
 
@@ -147,16 +147,16 @@ module _ {t : List ℕ} {D : Set} {k : ℕ} {l : List ℕ} (a : Asked t D k l) w
             }
               where
                 e : R (size 256 D) k ≡ most
-                e = rows-weight (size 256 D) k
+                e = rows_weight (size 256 D) k
 
 -- a list within all stations names each group once, in order, and nothing else
-pub listed-groups : (L : Links) (n k g : ℕ) (Q : ℕ → Set) → n ≤ 256 → ListedIn L 256 k (stations n) g Q → Listed L n k g Q
-listed-groups L n k g Q l s = record {
+pub listed_groups : (L : Links) (n k g : ℕ) (Q : ℕ → Set) → n ≤ 256 → ListedIn L 256 k (stations n) g Q → Listed L n k g Q
+listed_groups L n k g Q l s = record {
   groups = rows L n k g Q (record {
-    hold = λ i h. holds-to L n 256 k l (Q i) (below i h) (s.hold i h);
+    hold = λ i h. holds_to L n 256 k l (Q i) (below i h) (s.hold i h);
     inside = s.inside;
-    cover = λ H h p. s.cover H (holds-from L n 256 k l H h) p;
-    share = λ i j h m d. omega (arith, s.share i j h m d, size-past n 256 (Q i cut Q j) (λ x e. below i h x (of_cut (Q i) (Q j) x e).0) l);
+    cover = λ H h p. s.cover H (holds_from L n 256 k l H h) p;
+    share = λ i j h m d. omega (arith, s.share i j h m d, size_past n 256 (Q i cut Q j) (λ x e. below i h x (of_cut (Q i) (Q j) x e).0) l);
   });
   order = s.order;
 }

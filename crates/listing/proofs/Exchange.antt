@@ -4,22 +4,22 @@ use mathlib.Core.Path.{◌≡◌, sym, ap, ◌∙◌, subst}
 use Prim.Native.Nat.{ℕ, zero, suc, ◌+◌, ◌-◌, ◌<◌, ◌≤◌}
 use native.Mathlib.Decide.{ℕ_discrete, dec_lt}
 use native.Mathlib.Omega.{arith}
-use Rattle.stations.specs.Sets.{Set, ◌part-of◌, ◌cut◌, size}
+use Rattle.stations.specs.Sets.{Set, ◌part_of◌, ◌cut◌, size}
 use Rattle.mesh.specs.Mesh.{Links, Holds}
-use Rattle.mesh.proofs.Bound.{total, total-same, weight}
-use Rattle.mesh.proofs.Pieces.{Pieces, put, put_same, put_other, total-put, both-sub, swap}
+use Rattle.mesh.proofs.Bound.{total, total_same, weight}
+use Rattle.mesh.proofs.Pieces.{Pieces, put, put_same, put_other, total_put, both_sub, swap}
 
 -- sums over two families, one behind the other
-pub total-both : (c m : ℕ) (f : ℕ → ℕ) → total (c + m) f ≡ total c f + total m (λ i. f (c + i))
+pub total_both : (c m : ℕ) (f : ℕ → ℕ) → total (c + m) f ≡ total c f + total m (λ i. f (c + i))
 unfolding total
-total-both c zero f = omega (arith, ap (λ (x : ℕ). total x f) (add_none c))
+total_both c zero f = omega (arith, ap (λ (x : ℕ). total x f) (add_none c))
   where
     add_none : (x : ℕ) → x + 0 ≡ x
     add_none x = omega arith
-total-both c (suc m) f = omega (arith, ap (λ (x : ℕ). total x f) (add-suc c m), total-both c m f)
+total_both c (suc m) f = omega (arith, ap (λ (x : ℕ). total x f) (add_suc c m), total_both c m f)
   where
-    add-suc : (x y : ℕ) → x + suc y ≡ suc (x + y)
-    add-suc x y = omega arith
+    add_suc : (x y : ℕ) → x + suc y ≡ suc (x + y)
+    add_suc x y = omega arith
 
 -- Q' is Q with piece r at c, and piece c at r
 module _ (L : Links) (n k w : ℕ) (D : Set) (c : ℕ) (Q : ℕ → Set) (s : Pieces L n k w D (suc c) Q) (r : ℕ) (l : r < suc c) (Q' : ℕ → Set)
@@ -70,8 +70,8 @@ module _ (L : Links) (n k w : ℕ) (D : Set) (c : ℕ) (Q : ℕ → Set) (s : Pi
   sum f = go (ℕ_discrete r c)
     where
       go : Dec (r ≡ c) → f (Q' c) + total c (λ i. f (Q' i)) ≡ f (Q c) + total c (λ i. f (Q i))
-      go (yes e) = omega (arith, ap f (last ∙ ap Q e), total-same c (λ i. f (Q' i)) (λ i. f (Q i)) (λ i h. ap f (other i h (λ d. omega arith))))
-      go (no d) = omega (arith, ap f last, total-put c Q r (Q c) f (omega arith), total-same c (λ i. f (Q' i)) (λ i. f (put Q r (Q c) i)) (λ i h. ap f (by i h (ℕ_discrete i r))))
+      go (yes e) = omega (arith, ap f (last ∙ ap Q e), total_same c (λ i. f (Q' i)) (λ i. f (Q i)) (λ i h. ap f (other i h (λ d. omega arith))))
+      go (no d) = omega (arith, ap f last, total_put c Q r (Q c) f (omega arith), total_same c (λ i. f (Q' i)) (λ i. f (put Q r (Q c) i)) (λ i h. ap f (by i h (ℕ_discrete i r))))
         where
           by : (i : ℕ) → i < c → Dec (i ≡ r) → Q' i ≡ put Q r (Q c) i
           by i h (yes e) = ap Q' e ∙ moved (omega arith) ∙ sym (put_same Q r (Q c)) ∙ ap (put Q r (Q c)) (sym e)
@@ -116,7 +116,7 @@ module _ (L : Links) (n k w : ℕ) (D : Set) (c : ℕ) (Q : ℕ → Set) (s : Pi
 
       -- an old piece and a new one
       between : (i j : ℕ) → i < c → j < m → size n (Q' i cut Q' (c + j)) < k
-      between i j a b = rw (old i a) (omega (arith, s.share i c (omega arith) (omega arith) (λ e. omega arith), both-sub n (Q i) (Q' (c + j)) (Q i) (Q c) (λ x g. g) (p.inside j b)))
+      between i j a b = rw (old i a) (omega (arith, s.share i c (omega arith) (omega arith) (λ e. omega arith), both_sub n (Q i) (Q' (c + j)) (Q i) (Q c) (λ x g. g) (p.inside j b)))
 
       share : (i j : ℕ) → i < c + m → j < c + m → ¬ (i ≡ j) → size n (Q' i cut Q' j) < k
       share i j a b d = go (dec_lt i c) (dec_lt j c)
@@ -133,8 +133,8 @@ module _ (L : Links) (n k w : ℕ) (D : Set) (c : ℕ) (Q : ℕ → Set) (s : Pi
       light : total (c + m) (λ i. weight k (size n (Q' i))) ≤ w
       light = omega (
         arith,
-        total-both c m (λ i. weight k (size n (Q' i))),
-        total-same c (λ i. weight k (size n (Q' i))) (λ i. weight k (size n (Q i))) (λ i a. ap (λ (z : Set). weight k (size n z)) (old i a)),
+        total_both c m (λ i. weight k (size n (Q' i))),
+        total_same c (λ i. weight k (size n (Q' i))) (λ i. weight k (size n (Q i))) (λ i a. ap (λ (z : Set). weight k (size n z)) (old i a)),
         p.light,
         s.light,
       )

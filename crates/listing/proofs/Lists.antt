@@ -7,14 +7,14 @@ use native.Mathlib.Omega.{arith}
 use lib.ListN.{length, get_or, set, length-set}
 use lib.Seq.{get_or-set_same, get_or-set_other}
 use Rattle.stations.specs.Sets.{Set}
-use Rattle.stations.specs.Words.{has, members, putRow}
+use Rattle.stations.specs.Words.{has, members, put_row}
 use Rattle.stations.specs.declared.StationSet.{StationSet}
-use Rattle.stations.proofs.Laws.{put-length, row_put, row-put-other}
+use Rattle.stations.proofs.Laws.{put_length, row_put, row_put_other}
 use Rattle.listing.specs.List.{set_at}
 use Rattle.listing.specs.Rows.{Kept, Stored, Cleared}
 
-pub kept-none : (c : ℕ) (l : List ℕ) → Kept c l l
-kept-none c l = record { long = refl; past = λ p h. refl }
+pub kept_none : (c : ℕ) (l : List ℕ) → Kept c l l
+kept_none c l = record { long = refl; past = λ p h. refl }
 
 pub kept_more : {c : ℕ} {l l' l'' : List ℕ} → Kept c l l' → Kept c l' l'' → Kept c l l''
 kept_more a b = record { long = b.long ∙ a.long; past = λ p h. b.past p h ∙ a.past p h }
@@ -23,28 +23,28 @@ pub kept_less : {c : ℕ} {l l' : List ℕ} (e : ℕ) → c ≤ e → Kept c l l
 kept_less e h a = record { long = a.long; past = λ p m. a.past p (omega arith) }
 
 -- a row whose words are the same is the same
-pub same-words : (l l' : List ℕ) (i : ℕ) → ((p : ℕ) → i * 4 ≤ p → p < i * 4 + 4 → get_or l' p 0 ≡ get_or l p 0) → set_at l' i ≡ set_at l i
-same-words l l' i h = ap has (four (h (i * 4) (omega arith) (omega arith)) (h (i * 4 + 1) (omega arith) (omega arith)) (h (i * 4 + 2) (omega arith) (omega arith)) (h (i * 4 + 3) (omega arith) (omega arith)))
+pub same_words : (l l' : List ℕ) (i : ℕ) → ((p : ℕ) → i * 4 ≤ p → p < i * 4 + 4 → get_or l' p 0 ≡ get_or l p 0) → set_at l' i ≡ set_at l i
+same_words l l' i h = ap has (four (h (i * 4) (omega arith) (omega arith)) (h (i * 4 + 1) (omega arith) (omega arith)) (h (i * 4 + 2) (omega arith) (omega arith)) (h (i * 4 + 3) (omega arith) (omega arith)))
   where
     four : {a b c d a' b' c' d' : ℕ} → a ≡ a' → b ≡ b' → c ≡ c' → d ≡ d' → ◌≡◌ {A = List ℕ} (a ∷ b ∷ c ∷ d ∷ []) (a' ∷ b' ∷ c' ∷ d' ∷ [])
     four p q r s = cc
 
 pub kept_row : {c : ℕ} {l l' : List ℕ} → Kept c l l' → (i : ℕ) → c ≤ i → set_at l' i ≡ set_at l i
-kept_row {l = l} {l' = l'} k i h = same-words l l' i (λ p a b. k.past p (omega arith))
+kept_row {l = l} {l' = l'} k i h = same_words l l' i (λ p a b. k.past p (omega arith))
 
-put-past : (l : List ℕ) (r a b c d p : ℕ) → (r + 1) * 4 ≤ p → get_or (putRow l r a b c d) p 0 ≡ get_or l p 0
-put-past l r a b c d p h =
+put_past : (l : List ℕ) (r a b c d p : ℕ) → (r + 1) * 4 ≤ p → get_or (put_row l r a b c d) p 0 ≡ get_or l p 0
+put_past l r a b c d p h =
     get_or-set_other (set (set (set l (r * 4) a) (r * 4 + 1) b) (r * 4 + 2) c) (r * 4 + 3) p d 0 (λ e. omega arith)
     ∙ get_or-set_other (set (set l (r * 4) a) (r * 4 + 1) b) (r * 4 + 2) p c 0 (λ e. omega arith)
     ∙ get_or-set_other (set l (r * 4) a) (r * 4 + 1) p b 0 (λ e. omega arith)
     ∙ get_or-set_other l (r * 4) p a 0 (λ e. omega arith)
 
 -- a set put into row r
-put-stored : (l : List ℕ) (r a b c d : ℕ) → r * 4 + 4 ≤ length l → Stored l r (has (a ∷ b ∷ c ∷ d ∷ [])) (putRow l r a b c d)
-put-stored l r a b c d h = record {
+put_stored : (l : List ℕ) (r a b c d : ℕ) → r * 4 + 4 ≤ length l → Stored l r (has (a ∷ b ∷ c ∷ d ∷ [])) (put_row l r a b c d)
+put_stored l r a b c d h = record {
   here = ap has (row_put l r a b c d h);
-  other = λ i n. ap has (row-put-other l r a b c d i n);
-  kept = record { long = put-length l r a b c d; past = put-past l r a b c d };
+  other = λ i n. ap has (row_put_other l r a b c d i n);
+  kept = record { long = put_length l r a b c d; past = put_past l r a b c d };
 }
 
 -- the loop of `clear`: the words from a row's start up to p are zero
@@ -57,8 +57,8 @@ pub record Clearing (l : List ℕ) (a p : ℕ) (l' : List ℕ) : Type 0 where
 pub clear_none : (l : List ℕ) (a : ℕ) → Clearing l a (a * 4) l
 clear_none l a = record { zero = λ q h m. absurd (omega arith); other = λ q n h. refl; before = λ q h. refl; long = refl }
 
-pub clear-one : {l : List ℕ} {a p : ℕ} {l' : List ℕ} → Clearing l a p l' → a * 4 ≤ p → p < length l → Clearing l a (p + 1) (set l' p 0)
-clear-one {l = l} {a = a} {p = p} {l' = l'} s h m = record {
+pub clear_one : {l : List ℕ} {a p : ℕ} {l' : List ℕ} → Clearing l a p l' → a * 4 ≤ p → p < length l → Clearing l a (p + 1) (set l' p 0)
+clear_one {l = l} {a = a} {p = p} {l' = l'} s h m = record {
   zero = λ q x y. go q x y (ℕ_discrete q p);
   other = λ q n x. get_or-set_other l' p q 0 0 (λ e. omega arith) ∙ s.other q n (omega arith);
   before = λ q x. get_or-set_other l' p q 0 0 (λ e. omega arith) ∙ s.before q x;
@@ -69,13 +69,13 @@ clear-one {l = l} {a = a} {p = p} {l' = l'} s h m = record {
     go q x y (yes e) = rw e (get_or-set_same l' p 0 0 (omega (arith, s.long)))
     go q x y (no d) = get_or-set_other l' p q 0 0 d ∙ s.zero q x (omega arith)
 
-pub clear-all : {l : List ℕ} {a p : ℕ} {l' : List ℕ} (e : ℕ) → Clearing l a p l' → a ≤ e → p ≡ e * 4 → Cleared l a e l'
-clear-all {l = l} {a = a} {p = p} {l' = l'} e s h m = record {
+pub clear_all : {l : List ℕ} {a p : ℕ} {l' : List ℕ} (e : ℕ) → Clearing l a p l' → a ≤ e → p ≡ e * 4 → Cleared l a e l'
+clear_all {l = l} {a = a} {p = p} {l' = l'} e s h m = record {
   zero = λ q x y. s.zero q x (omega arith);
   before = s.before;
   kept = record { long = s.long; past = λ q x. s.other q (λ y. omega arith) (omega arith) };
 }
 
 -- the words of a station set put into row r
-pub put-set : {l l' : List ℕ} {r : ℕ} {A : Set} (s : StationSet) → members s ≡ A → r * 4 + 4 ≤ length l → l' ≡ putRow l r s.a s.b s.c s.d → Stored l r A l'
-put-set {l = l} {r = r} {A = A} s e h q = subst₂ (λ (B : Set) (u : List ℕ). Stored l r B u) e (sym q) (put-stored l r s.a s.b s.c s.d h)
+pub put_set : {l l' : List ℕ} {r : ℕ} {A : Set} (s : StationSet) → members s ≡ A → r * 4 + 4 ≤ length l → l' ≡ put_row l r s.a s.b s.c s.d → Stored l r A l'
+put_set {l = l} {r = r} {A = A} s e h q = subst₂ (λ (B : Set) (u : List ℕ). Stored l r B u) e (sym q) (put_stored l r s.a s.b s.c s.d h)

@@ -9,11 +9,11 @@ use native.Mathlib.Omega.{arith}
 use lib.ListN.{length}
 use Rattle.stations.specs.Sets.{Set, Below, Before}
 use Rattle.stations.specs.Words.{row}
-use Rattle.stations.proofs.Laws.{has-small}
-use Rattle.stations.proofs.Order.{before-trans, before-total, before-not-self}
+use Rattle.stations.proofs.Laws.{has_small}
+use Rattle.stations.proofs.Order.{before_trans, before_total, before_not_self}
 use Rattle.listing.specs.List.{set_at}
 use Rattle.listing.specs.Rows.{Kept, Stored, Ordered, Different, Unsorted, Sorted}
-use Rattle.listing.proofs.Lists.{kept-none, kept_more, kept_less, kept_row}
+use Rattle.listing.proofs.Lists.{kept_none, kept_more, kept_less, kept_row}
 
 pub record Shifting (l : List ℕ) (i : ℕ) (s : Set) (j : ℕ) (l' : List ℕ) : Type 0 where
   pub mine : s ≡ set_at l i
@@ -30,16 +30,16 @@ shift_none l i s e = record {
   low = λ m h. refl;
   high = λ m h g. absurd (omega arith);
   first = λ m h g. absurd (omega arith);
-  kept = kept-none (i + 1) l;
+  kept = kept_none (i + 1) l;
 }
 
 small : (l : List ℕ) (i : ℕ) → Below 256 (set_at l i)
-small l i x h = has-small (row l i) x refl h
+small l i x h = has_small (row l i) x refl h
 
 module _ {l : List ℕ} {i : ℕ} {s : Set} {j : ℕ} {l' : List ℕ} (h : Shifting l i s j l') (u : Unsorted l i) where
   -- of row j - 1 and s, that do not stand in this order, s comes first
   turned : (j ≡ 0 → ⊥) → (Before (set_at l (j - 1)) s → ⊥) → Before s (set_at l (j - 1))
-  turned n b = go (before-total 256 (set_at l (j - 1)) (set_at l i) (small l (j - 1)) (small l i))
+  turned n b = go (before_total 256 (set_at l (j - 1)) (set_at l i) (small l (j - 1)) (small l i))
     where
       up : j ≤ i
       up = h.upto
@@ -59,8 +59,8 @@ module _ {l : List ℕ} {i : ℕ} {s : Set} {j : ℕ} {l' : List ℕ} (h : Shift
       positive : (m : ℕ) → (m ≡ 0 → ⊥) → m - 1 < m
       positive m d = omega arith
 
-  pub shift-stop : (A : Set) → (j ≡ 0 → ⊥) → A ≡ set_at l' (j - 1) → Before A s → Before (set_at l (j - 1)) s
-  shift-stop A n e b = subst (λ (z : Set). Before z s) (row_below A n e) b
+  pub shift_stop : (A : Set) → (j ≡ 0 → ⊥) → A ≡ set_at l' (j - 1) → Before A s → Before (set_at l (j - 1)) s
+  shift_stop A n e b = subst (λ (z : Set). Before z s) (row_below A n e) b
 
   pub shift_one : (l'' : List ℕ) (A : Set) → (j ≡ 0 → ⊥) → A ≡ set_at l' (j - 1) → (Before A s → ⊥) → Stored l' j A l'' → Shifting l i s (j - 1) l''
   shift_one l'' A n e b st = record {
@@ -134,7 +134,7 @@ module _ {l : List ℕ} {i : ℕ} {s : Set} {j : ℕ} {l' : List ℕ} (h : Shift
           go : (j ≡ 0) ⊎ Before (set_at l (j - 1)) s → Dec (m ≡ j - 1) → Before (set_at l m) (set_at l i)
           go (inl e) d = absurd (omega arith)
           go (inr b) (yes e) = rw (e, ← h.mine) b
-          go (inr b) (no d) = before-trans (set_at l m) (set_at l (j - 1)) (set_at l i) (u.order m (j - 1) (omega arith) (omega arith)) (rw h.mine at b)
+          go (inr b) (no d) = before_trans (set_at l m) (set_at l (j - 1)) (set_at l i) (u.order m (j - 1) (omega arith) (omega arith)) (rw h.mine at b)
 
       order : Ordered (i + 1) (set_at l'')
       order a b lt bound = go (came a (omega arith)) (came b bound)
@@ -158,24 +158,24 @@ pub record Sorting (l : List ℕ) (g i : ℕ) (l' : List ℕ) : Type 0 where
   pub order : Ordered i (set_at l')
   pub kept : Kept g l l'
 
-pub sort-none : (l : List ℕ) (g : ℕ) → Different g (set_at l) → Sorting l g 0 l
-sort-none l g d = record {
+pub sort_none : (l : List ℕ) (g : ℕ) → Different g (set_at l) → Sorting l g 0 l
+sort_none l g d = record {
   from = λ m h. (m, h, refl);
   onto = λ r h. (r, h, refl);
   differ = d;
   order = λ a b p q. absurd (omega arith);
-  kept = kept-none g l;
+  kept = kept_none g l;
 }
 
-pub sort-all : {l l' : List ℕ} {g i : ℕ} → Sorting l g i l' → i ≡ g → Sorted l g l'
-sort-all s e = record { from = s.from; onto = s.onto; order = λ a b p q. s.order a b p (omega arith); kept = s.kept }
+pub sort_all : {l l' : List ℕ} {g i : ℕ} → Sorting l g i l' → i ≡ g → Sorted l g l'
+sort_all s e = record { from = s.from; onto = s.onto; order = λ a b p q. s.order a b p (omega arith); kept = s.kept }
 
 module _ {l : List ℕ} {g i : ℕ} {l' : List ℕ} (s : Sorting l g i l') (lt : i < g) where
-  pub sort-next : g * 4 ≤ length l → Unsorted l' i
-  sort-next h = record { room = omega (arith, s.kept.long); order = s.order; differ = λ a b p q e. s.differ a b (omega arith) (omega arith) e }
+  pub sort_next : g * 4 ≤ length l → Unsorted l' i
+  sort_next h = record { room = omega (arith, s.kept.long); order = s.order; differ = λ a b p q e. s.differ a b (omega arith) (omega arith) e }
 
-  pub sort-one : (l'' : List ℕ) → Sorted l' (i + 1) l'' → Sorting l g (i + 1) l''
-  sort-one l'' t = record { from = from; onto = onto; differ = differ; order = t.order; kept = kept_more s.kept (kept_less g (omega arith) t.kept) }
+  pub sort_one : (l'' : List ℕ) → Sorted l' (i + 1) l'' → Sorting l g (i + 1) l''
+  sort_one l'' t = record { from = from; onto = onto; differ = differ; order = t.order; kept = kept_more s.kept (kept_less g (omega arith) t.kept) }
     where
       past : (m : ℕ) → (m < i + 1 → ⊥) → set_at l'' m ≡ set_at l' m
       past m n = kept_row t.kept m (omega arith)
@@ -214,6 +214,6 @@ module _ {l : List ℕ} {g i : ℕ} {l' : List ℕ} (s : Sorting l g i l') (lt :
           go (yes x) (no y) _ _ = absurd (apart a b x y q e)
           go (no x) (yes y) _ _ = absurd (apart b a y x p (sym e))
           go (no x) (no y) _ _ = s.differ a b p q (sym (past a x) ∙ e ∙ past b y)
-          go (yes x) (yes y) (yes z) _ = absurd (before-not-self (set_at l'' b) (rw e at (t.order a b z y)))
-          go (yes x) (yes y) (no _) (yes z) = absurd (before-not-self (set_at l'' a) (rw (← e) at (t.order b a z x)))
+          go (yes x) (yes y) (yes z) _ = absurd (before_not_self (set_at l'' b) (rw e at (t.order a b z y)))
+          go (yes x) (yes y) (no _) (yes z) = absurd (before_not_self (set_at l'' a) (rw (← e) at (t.order b a z x)))
           go (yes x) (yes y) (no z) (no w) = omega arith

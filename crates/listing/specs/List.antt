@@ -3,7 +3,7 @@
 --   ListedIn             the rows are the largest sets of D that hold, in order, and nothing else
 --   Asked, Listing       what `list_within` asks for, and what it leaves
 use Rattle.std.specs.Prelude.{List, ◌≡◌, ℕ, ◌*◌, ◌<◌, ◌≤◌, length, get_or}
-use Rattle.stations.specs.Sets.{Set, ◌part-of◌, ◌cut◌, size, Before}
+use Rattle.stations.specs.Sets.{Set, ◌part_of◌, ◌cut◌, size, Before}
 use Rattle.stations.specs.Words.{has, row}
 use Rattle.mesh.specs.Mesh.{Links, Mesh, Holds, R}
 use Rattle.mesh.specs.Table.{linked, Fits}

@@ -5,7 +5,7 @@
 --   State t k w D l g c      where the search stands, w being the weight of D
 --   above k Q g c            the measure: how many stations above k the sets Q g to Q (c - 1) have together
 use Rattle.std.specs.Prelude.{List, ◌≡◌, ℕ, ◌+◌, ◌-◌, ◌*◌, ◌<◌, ◌≤◌, length}
-use Rattle.stations.specs.Sets.{Set, ◌part-of◌, size}
+use Rattle.stations.specs.Sets.{Set, ◌part_of◌, size}
 use Rattle.mesh.specs.Mesh.{Links, Mesh, Holds, Weak}
 use Rattle.mesh.specs.Table.{linked, Fits}
 use Rattle.mesh.proofs.Bound.{total, weight}

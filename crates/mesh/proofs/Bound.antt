@@ -1,7 +1,7 @@
 -- Weights. A piece of m stations weighs (m + 1 - k) / 2: 0 at k stations or fewer, at least 1 above. With a loss of c < k stations, islands of
 -- a stations make pieces of a + c, and (a + c + 1 - k) / 2 summed over the islands is at most the weight of the whole, since each island beyond
 -- the first gives up k - c stations of its own. So a division adds no weight (bound), rows of more than k stations are never more than R, and
--- the stations above k fall (falls). A family that is part of another weighs no more (total-inject).
+-- the stations above k fall (falls). A family that is part of another weighs no more (total_inject).
 use mathlib.Core.Path.{◌≡◌, refl, sym, ◌∙◌, ap}
 use mathlib.Core.Logic.{◌⊎◌, inl, inr}
 use mathlib.Core.Bool.{Bool, true, false, cond, false≢true}
@@ -10,12 +10,12 @@ use native.Mathlib.Omega.{arith}
 use native.Mathlib.Decide.{ℕ_discrete}
 use lib.Dec.{leb, eqb}
 use borrow.Author.Tests.{leb-true, leb-false, eq-eqb, ne_eqb}
-use Rattle.stations.specs.Sets.{Set, ◌is-in◌, ◌not-in◌, ◌part-of◌, none, ◌without◌, ◌cut◌, ◌joined◌, size}
+use Rattle.stations.specs.Sets.{Set, ◌is_in◌, ◌not_in◌, ◌part_of◌, none, ◌without◌, ◌cut◌, ◌joined◌, size}
 use Rattle.mesh.specs.Mesh.{Links, R}
 use Rattle.mesh.specs.Dividing.{Islands}
 use Rattle.stations.proofs.Bools.{test, never, or_cases, or_left, or_right}
-use Rattle.stations.proofs.Members.{of-without, in_without, same_set}
-use Rattle.stations.proofs.Counting.{size-minus, size-disjoint, Disjoint, size-empty}
+use Rattle.stations.proofs.Members.{of_without, in_without, same_set}
+use Rattle.stations.proofs.Counting.{size_minus, size_disjoint, Disjoint, size_empty}
 
 -- f 0 + .. + f (t - 1)
 unfoldable pub total : ℕ → (ℕ → ℕ) → ℕ
@@ -27,23 +27,23 @@ abbrev pub weight : ℕ → ℕ → ℕ
 weight k m = (m + 1 - k) / 2
 
 -- R is the weight of all stations
-pub rows-weight : (n k : ℕ) → R n k ≡ weight k n
-rows-weight n k = go (leb n k) refl
+pub rows_weight : (n k : ℕ) → R n k ≡ weight k n
+rows_weight n k = go (leb n k) refl
   where
     go : (b : Bool) → leb n k ≡ b → cond b 0 ((n - k + 1) / 2) ≡ weight k n
     go true e = omega (arith, leb-true n k e)
     go false e = omega (arith, leb-false n k e)
 
-pub total-same : (t : ℕ) (f g : ℕ → ℕ) → ((i : ℕ) → i < t → f i ≡ g i) → total t f ≡ total t g
+pub total_same : (t : ℕ) (f g : ℕ → ℕ) → ((i : ℕ) → i < t → f i ≡ g i) → total t f ≡ total t g
 unfolding total
-total-same zero f g h = refl
-total-same (suc t) f g h = omega (arith, h t (omega arith), total-same t f g (λ i l. h i (omega arith)))
+total_same zero f g h = refl
+total_same (suc t) f g h = omega (arith, h t (omega arith), total_same t f g (λ i l. h i (omega arith)))
 
 -- the sum with nothing at r
-total-without : (c : ℕ) (h : ℕ → ℕ) (r : ℕ) → r < c → total c h ≡ h r + total c (λ i. cond (eqb i r) 0 (h i))
+total_without : (c : ℕ) (h : ℕ → ℕ) (r : ℕ) → r < c → total c h ≡ h r + total c (λ i. cond (eqb i r) 0 (h i))
 unfolding total
-total-without zero h r l = absurd (omega arith)
-total-without (suc c) h r l = go (ℕ_discrete c r) (total-without c h r)
+total_without zero h r l = absurd (omega arith)
+total_without (suc c) h r l = go (ℕ_discrete c r) (total_without c h r)
   where
     other : (i : ℕ) → ¬ (i ≡ r) → cond (eqb i r) 0 (h i) ≡ h i
     other i d = rw (ne_eqb i r d)
@@ -53,20 +53,20 @@ total-without (suc c) h r l = go (ℕ_discrete c r) (total-without c h r)
 
     go : Dec (c ≡ r) → (r < c → total c h ≡ h r + total c (λ i. cond (eqb i r) 0 (h i)))
         → h c + total c h ≡ h r + (cond (eqb c r) 0 (h c) + total c (λ i. cond (eqb i r) 0 (h i)))
-    go (yes e) ih = omega (arith, here e, ap h e, total-same c (λ i. cond (eqb i r) 0 (h i)) h (λ i m. other i (λ q. omega arith)))
+    go (yes e) ih = omega (arith, here e, ap h e, total_same c (λ i. cond (eqb i r) 0 (h i)) h (λ i m. other i (λ q. omega arith)))
     go (no d) ih = omega (arith, other c d, ih (omega arith))
 
 -- Where the numbers f 0, .., f (g - 1) stand at different places of h, below c, they add up to no more than h 0, .., h (c - 1): the last of them
 -- is taken out of h, and the others stand elsewhere.
-pub total-inject : (g c : ℕ) (f h : ℕ → ℕ) (to : (i : ℕ) → i < g → ℕ) → ((i : ℕ) (l : i < g) → (to i l < c) × (f i ≡ h (to i l)))
+pub total_inject : (g c : ℕ) (f h : ℕ → ℕ) (to : (i : ℕ) → i < g → ℕ) → ((i : ℕ) (l : i < g) → (to i l < c) × (f i ≡ h (to i l)))
     → ((i j : ℕ) (l : i < g) (m : j < g) → to i l ≡ to j m → i ≡ j) → total g f ≤ total c h
 unfolding total
-total-inject zero c f h to is apart = omega arith
-total-inject (suc g) c f h to is apart = omega (
+total_inject zero c f h to is apart = omega arith
+total_inject (suc g) c f h to is apart = omega (
   arith,
   (is g last).1,
-  total-without c h r (is g last).0,
-  total-inject g c f (λ i. cond (eqb i r) 0 (h i)) (λ i l. to i (up i l)) (λ i l. ((is i (up i l)).0, (is i (up i l)).1 ∙ other i l)) (λ i j l m. apart i j (up i l) (up j m)),
+  total_without c h r (is g last).0,
+  total_inject g c f (λ i. cond (eqb i r) 0 (h i)) (λ i l. to i (up i l)) (λ i l. ((is i (up i l)).0, (is i (up i l)).1 ∙ other i l)) (λ i j l m. apart i j (up i l) (up j m)),
 )
   where
     up : (i : ℕ) → i < g → i < suc g
@@ -87,73 +87,73 @@ unfolding total
 weights k c zero a h = omega arith
 weights k c (suc t) a h = omega (arith, weights k c t a h)
 
-measure-le : (k c t : ℕ) (a : ℕ → ℕ) → c < k → total t (λ i. a i + c - k) ≤ total t a + c - k
+measure_le : (k c t : ℕ) (a : ℕ → ℕ) → c < k → total t (λ i. a i + c - k) ≤ total t a + c - k
 unfolding total
-measure-le k c zero a h = omega arith
-measure-le k c (suc t) a h = omega (arith, measure-le k c t a h)
+measure_le k c zero a h = omega arith
+measure_le k c (suc t) a h = omega (arith, measure_le k c t a h)
 
-measure-lt : (k c t : ℕ) (a : ℕ → ℕ) → c < k → ((i : ℕ) → i < suc (suc t) → 0 < a i) → k < total (suc (suc t)) a + c
+measure_lt : (k c t : ℕ) (a : ℕ → ℕ) → c < k → ((i : ℕ) → i < suc (suc t) → 0 < a i) → k < total (suc (suc t)) a + c
     → total (suc (suc t)) (λ i. a i + c - k) < total (suc (suc t)) a + c - k
 unfolding total
-measure-lt k c t a h pos big =
-    omega (arith, pos (suc t) (omega arith), pos t (omega arith), measure-le k c t a h)
+measure_lt k c t a h pos big =
+    omega (arith, pos (suc t) (omega arith), pos t (omega arith), measure_le k c t a h)
 
 -- the islands together
 up_to : (ℕ → Set) → ℕ → Set
 up_to I zero = none
 up_to I (suc t) = up_to I t joined I t
 
-in-upTo : (I : ℕ → Set) (t i x : ℕ) → i < t → x is-in I i → x is-in up_to I t
+in_up_to : (I : ℕ → Set) (t i x : ℕ) → i < t → x is_in I i → x is_in up_to I t
 unfolding up_to
-in-upTo I zero i x l h = absurd (omega arith)
-in-upTo I (suc t) i x l h = go (ℕ_discrete i t) (λ m. in-upTo I t i x m h)
+in_up_to I zero i x l h = absurd (omega arith)
+in_up_to I (suc t) i x l h = go (ℕ_discrete i t) (λ m. in_up_to I t i x m h)
   where
-    go : Dec (i ≡ t) → (i < t → x is-in up_to I t) → x is-in up_to I t joined I t
+    go : Dec (i ≡ t) → (i < t → x is_in up_to I t) → x is_in up_to I t joined I t
     go (yes e) ih = or_right (up_to I t x) (I t x) (rw (← e) h)
     go (no d) ih = or_left (up_to I t x) (I t x) (ih (omega arith))
 
-upTo-in : (I : ℕ → Set) (t x : ℕ) → x is-in up_to I t → (i : ℕ) × (i < t) × (x is-in I i)
+up_to_in : (I : ℕ → Set) (t x : ℕ) → x is_in up_to I t → (i : ℕ) × (i < t) × (x is_in I i)
 unfolding up_to
-upTo-in I zero x h = absurd (false≢true h)
-upTo-in I (suc t) x h = go (or_cases (up_to I t x) (I t x) h) (upTo-in I t x)
+up_to_in I zero x h = absurd (false≢true h)
+up_to_in I (suc t) x h = go (or_cases (up_to I t x) (I t x) h) (up_to_in I t x)
   where
-    go : (x is-in up_to I t) ⊎ (x is-in I t) → (x is-in up_to I t → (i : ℕ) × (i < t) × (x is-in I i)) → (i : ℕ) × (i < suc t) × (x is-in I i)
+    go : (x is_in up_to I t) ⊎ (x is_in I t) → (x is_in up_to I t → (i : ℕ) × (i < t) × (x is_in I i)) → (i : ℕ) × (i < suc t) × (x is_in I i)
     go (inl a) ih = let r = ih a in (r.0, omega (arith, r.1), r.2)
     go (inr a) ih = (t, omega arith, a)
 
-size-upTo : (n : ℕ) (I : ℕ → Set) (t : ℕ) → ((i j x : ℕ) → i < t → j < t → x is-in I i → x is-in I j → i ≡ j) → size n (up_to I t) ≡ total t (λ i. size n (I i))
+size_up_to : (n : ℕ) (I : ℕ → Set) (t : ℕ) → ((i j x : ℕ) → i < t → j < t → x is_in I i → x is_in I j → i ≡ j) → size n (up_to I t) ≡ total t (λ i. size n (I i))
 unfolding up_to total
-size-upTo n I zero h = size-empty n
-size-upTo n I (suc t) h =
-    omega (arith, size-disjoint n (up_to I t) (I t) dis, size-upTo n I t (λ i j x l m. h i j x (omega arith) (omega arith)))
+size_up_to n I zero h = size_empty n
+size_up_to n I (suc t) h =
+    omega (arith, size_disjoint n (up_to I t) (I t) dis, size_up_to n I t (λ i j x l m. h i j x (omega arith) (omega arith)))
   where
     dis : Disjoint (up_to I t) (I t)
-    dis x g = go (test (I t x)) (upTo-in I t x g)
+    dis x g = go (test (I t x)) (up_to_in I t x g)
       where
-        go : (I t x ≡ true) ⊎ (I t x ≡ false) → (i : ℕ) × (i < t) × (x is-in I i) → x not_in I t
+        go : (I t x ≡ true) ⊎ (I t x ≡ false) → (i : ℕ) × (i < t) × (x is_in I i) → x not_in I t
         go (inr a) r = a
         go (inl a) (i, l, b) = absurd (omega (arith, h i t x (omega arith) (omega arith) b a))
 
 module _ (L : Links) (n k : ℕ) (P S : Set) (t : ℕ) (I : ℕ → Set) (isl : Islands L P S t I) (sp : S part_of P) (few : size n S < k) where
   pub sizes : total t (λ i. size n (I i)) + size n S ≡ size n P
-  sizes = omega (arith, size-minus n P S sp, ap (size n) e, size-upTo n I t (λ i j x. isl.apart i j x))
+  sizes = omega (arith, size_minus n P S sp, ap (size n) e, size_up_to n I t (λ i j x. isl.apart i j x))
     where
-      from : (x : ℕ) → (i : ℕ) × (i < t) × (x is-in I i) → x is-in P without S
+      from : (x : ℕ) → (i : ℕ) × (i < t) × (x is_in I i) → x is_in P without S
       from x (i, l, h) = isl.inside i l x h
 
-      to : (x : ℕ) → (i : ℕ) × (i < t) × (x is-in I i) → x is-in up_to I t
-      to x (i, l, h) = in-upTo I t i x l h
+      to : (x : ℕ) → (i : ℕ) × (i < t) × (x is_in I i) → x is_in up_to I t
+      to x (i, l, h) = in_up_to I t i x l h
 
       e : up_to I t ≡ P without S
-      e = same_set (up_to I t) (P without S) (λ x g. from x (upTo-in I t x g)) (λ x g. to x (isl.cover x g))
+      e = same_set (up_to I t) (P without S) (λ x g. from x (up_to_in I t x g)) (λ x g. to x (isl.cover x g))
 
-  pub size-piece : (i : ℕ) → i < t → size n (I i joined S) ≡ size n (I i) + size n S
-  size-piece i l = size-disjoint n (I i) S (λ x g. (of-without P S x (isl.inside i l x g)).1)
+  pub size_piece : (i : ℕ) → i < t → size n (I i joined S) ≡ size n (I i) + size n S
+  size_piece i l = size_disjoint n (I i) S (λ x g. (of_without P S x (isl.inside i l x g)).1)
 
   -- the weights of the pieces add up to at most the weight of P
   pub bound : total t (λ i. weight k (size n (I i joined S))) ≤ weight k (size n P)
   bound =
-      rw (total-same t (λ i. weight k (size n (I i joined S))) (λ i. weight k (size n (I i) + size n S)) (λ i l. ap (weight k) (size-piece i l)), ← sizes)
+      rw (total_same t (λ i. weight k (size n (I i joined S))) (λ i. weight k (size n (I i) + size n S)) (λ i l. ap (weight k) (size_piece i l)), ← sizes)
       (weights k (size n S) t (λ i. size n (I i)) few)
 
 -- a piece that is kept weighs at least 1
@@ -164,8 +164,8 @@ heavy k m h = omega arith
 pub falls : (L : Links) (n k : ℕ) (P S : Set) (t : ℕ) (I : ℕ → Set) → Islands L P S (suc (suc t)) I → S part_of P → size n S < k → k < size n P
     → ((i : ℕ) → i < suc (suc t) → 0 < size n (I i)) → total (suc (suc t)) (λ i. size n (I i joined S) - k) < size n P - k
 falls L n k P S t I isl sp few big pos =
-    rw (total-same (suc (suc t)) (λ i. size n (I i joined S) - k) (λ i. size n (I i) + size n S - k) (λ i l. ap (λ m. m - k) (size-piece L n k P S (suc (suc t)) I isl sp few i l)), ← e)
-    (measure-lt k (size n S) t (λ i. size n (I i)) few pos (omega (arith, e)))
+    rw (total_same (suc (suc t)) (λ i. size n (I i joined S) - k) (λ i. size n (I i) + size n S - k) (λ i l. ap (λ m. m - k) (size_piece L n k P S (suc (suc t)) I isl sp few i l)), ← e)
+    (measure_lt k (size n S) t (λ i. size n (I i)) few pos (omega (arith, e)))
   where
     e : total (suc (suc t)) (λ i. size n (I i)) + size n S ≡ size n P
     e = sizes L n k P S (suc (suc t)) I isl sp few

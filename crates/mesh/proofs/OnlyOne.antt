@@ -6,13 +6,13 @@ use mathlib.Core.Bool.{Bool, true, false}
 use Prim.Native.Nat.{ℕ, zero, suc, ◌+◌, ◌≤◌, ◌<◌}
 use native.Mathlib.Omega.{arith}
 use native.Mathlib.Decide.{dec_lt, ℕ_discrete}
-use Rattle.stations.specs.Sets.{Set, ◌is-in◌, ◌not-in◌, Before, size}
+use Rattle.stations.specs.Sets.{Set, ◌is_in◌, ◌not_in◌, Before, size}
 use Rattle.mesh.specs.Mesh.{Links, Weak, WeakSet, Groups, Listed, Holds, Reply, HOLDS, FEW, WEAK, Answers}
-use Rattle.stations.proofs.Order.{before-not-after, before-not-self}
+use Rattle.stations.proofs.Order.{before_not_after, before_not_self}
 
 -- the weak set of a reply is the only one
-pub weakSet-one : (L : Links) (n k : ℕ) (s p q : Set) → WeakSet L n k s p → WeakSet L n k s q → p ≡ q
-weakSet-one L n k s p q a b =
+pub weak_set_one : (L : Links) (n k : ℕ) (s p q : Set) → WeakSet L n k s p → WeakSet L n k s q → p ≡ q
+weak_set_one L n k s p q a b =
     go (a.first q b.weak (sym e)) (b.first p a.weak e)
   where
     e : size n p ≡ size n q
@@ -21,7 +21,7 @@ weakSet-one L n k s p q a b =
     go : (q ≡ p) ⊎ Before p q → (p ≡ q) ⊎ Before q p → p ≡ q
     go (inl h) j = sym h
     go (inr h) (inl j) = j
-    go (inr h) (inr j) = absurd (before-not-after p q h j)
+    go (inr h) (inr j) = absurd (before_not_after p q h j)
 
 -- two lists of the groups at k, in order, are the same list
 module _ (L : Links) (n k : ℕ) where
@@ -41,8 +41,8 @@ module _ (L : Links) (n k : ℕ) where
 
             by : Dec (u < v) → Dec (u ≡ v) → u < v
             by (yes c) w = c
-            by (no c) (yes w) = absurd (before-not-self (R' v) (rw w at f))
-            by (no c) (no w) = absurd (before-not-after (R' u) (R' v) f (b.order v u (omega arith) p))
+            by (no c) (yes w) = absurd (before_not_self (R' v) (rw w at f))
+            by (no c) (no w) = absurd (before_not_after (R' u) (R' v) f (b.order v u (omega arith) p))
 
     grows : (i : ℕ) (l : i < g) → i ≤ (place i l).0
     grows zero l = omega arith
@@ -60,8 +60,8 @@ module _ (L : Links) (n k : ℕ) where
               let u : j ≡ i = omega arith in
               (omega arith, e ∙ ap R' u)
 
-  pub listed-one : (g g' : ℕ) (R R' : ℕ → Set) → Listed L n k g R → Listed L n k g' R' → (g ≡ g') × ((i : ℕ) → i < g → R i ≡ R' i)
-  listed-one g g' R R' a b = (go (dec_lt g g') (dec_lt g' g), λ i l. (same_place g g' R R' a b i l).1)
+  pub listed_one : (g g' : ℕ) (R R' : ℕ → Set) → Listed L n k g R → Listed L n k g' R' → (g ≡ g') × ((i : ℕ) → i < g → R i ≡ R' i)
+  listed_one g g' R R' a b = (go (dec_lt g g') (dec_lt g' g), λ i l. (same_place g g' R R' a b i l).1)
     where
       go : Dec (g < g') → Dec (g' < g) → g ≡ g'
       go (yes c) d = absurd (omega (arith, (same_place g' g R' R b a g c).0))
@@ -69,13 +69,13 @@ module _ (L : Links) (n k : ℕ) where
       go (no c) (no d) = omega arith
 
   -- the answer to the holding question is the only one
-  pub answer-one : (s : Set) (r r' : Reply) → Answers L n k s r → Answers L n k s r' → r ≡ r'
-  answer-one s HOLDS HOLDS a b = refl
-  answer-one s HOLDS FEW a b = absurd (omega (arith, a.above))
-  answer-one s HOLDS (WEAK p) a b = absurd (b.1.weak.parts (a.firm p b.1.weak.part b.1.weak.few))
-  answer-one s FEW HOLDS a b = absurd (omega (arith, b.above))
-  answer-one s FEW FEW a b = refl
-  answer-one s FEW (WEAK p) a b = absurd (omega arith)
-  answer-one s (WEAK p) HOLDS a b = absurd (a.1.weak.parts (b.firm p a.1.weak.part a.1.weak.few))
-  answer-one s (WEAK p) FEW a b = absurd (omega arith)
-  answer-one s (WEAK p) (WEAK q) a b = ap WEAK (weakSet-one L n k s p q a.1 b.1)
+  pub answer_one : (s : Set) (r r' : Reply) → Answers L n k s r → Answers L n k s r' → r ≡ r'
+  answer_one s HOLDS HOLDS a b = refl
+  answer_one s HOLDS FEW a b = absurd (omega (arith, a.above))
+  answer_one s HOLDS (WEAK p) a b = absurd (b.1.weak.parts (a.firm p b.1.weak.part b.1.weak.few))
+  answer_one s FEW HOLDS a b = absurd (omega (arith, b.above))
+  answer_one s FEW FEW a b = refl
+  answer_one s FEW (WEAK p) a b = absurd (omega arith)
+  answer_one s (WEAK p) HOLDS a b = absurd (a.1.weak.parts (b.firm p a.1.weak.part a.1.weak.few))
+  answer_one s (WEAK p) FEW a b = absurd (omega arith)
+  answer_one s (WEAK p) (WEAK q) a b = ap WEAK (weak_set_one L n k s p q a.1 b.1)

@@ -5,7 +5,7 @@ use Prim.Native.Nat.{ℕ, suc, ◌+◌, ◌≤◌, ◌<◌}
 use native.Mathlib.Omega.{arith}
 use native.Mathlib.Decide.{ℕ_discrete}
 use borrow.Author.Tests.{lt-ltb}
-use Rattle.stations.specs.Sets.{Set, ◌is-in◌, ◌part-of◌, ◌cut◌, stations, size}
+use Rattle.stations.specs.Sets.{Set, ◌is_in◌, ◌part_of◌, ◌cut◌, stations, size}
 use Rattle.mesh.specs.Mesh.{Links, Holds, Group, Groups}
 use Rattle.stations.proofs.Bools.{and_in}
 use Rattle.stations.proofs.Members.{same_set}

@@ -9,7 +9,7 @@
 --   Listed L n k g R     the rows R 0 to R (g - 1) are the groups at k, each once, in order, and nothing else
 --   R n k                the rows that a list needs room for
 use Rattle.std.specs.Prelude.{◌≡◌, Bool, true, false, cond, ◌⊎◌, ℕ, ◌+◌, ◌-◌, ◌/◌, ◌<◌, ◌≤◌, leb}
-use Rattle.stations.specs.Sets.{Set, ◌is-in◌, ◌part-of◌, ◌without◌, Below, size, Before}
+use Rattle.stations.specs.Sets.{Set, ◌is_in◌, ◌part_of◌, ◌without◌, Below, size, Before}
 
 -- which stations are linked
 abbrev pub Links : Type 0
@@ -22,12 +22,12 @@ pub record Mesh (L : Links) : Type 0 where
 
 -- rule M1: a chain inside s leads from the one to the other, its ends in s too
 pub data Touch (L : Links) (s : Set) : ℕ → ℕ → Type 0 where
-  here : {a : ℕ} → a is-in s → Touch L s a a
-  step : {a b c : ℕ} → a is-in s → L a b ≡ true → Touch L s b c → Touch L s a c
+  here : {a : ℕ} → a is_in s → Touch L s a a
+  step : {a b c : ℕ} → a is_in s → L a b ≡ true → Touch L s b c → Touch L s a c
 
--- rule M2: any two of its stations are in touch in it. A set of one is whole (Chains: one-whole).
+-- rule M2: any two of its stations are in touch in it. A set of one is whole (Chains: one_whole).
 abbrev pub Whole : Links → Set → Type 0
-Whole L s = (a b : ℕ) → a is-in s → b is-in s → Touch L s a b
+Whole L s = (a b : ℕ) → a is_in s → b is_in s → Touch L s a b
 
 -- rule M3: more than k stations, and no loss p of fewer than k of them parts it
 pub record Holds (L : Links) (n k : ℕ) (s : Set) : Type 0 where

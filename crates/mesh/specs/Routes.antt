@@ -7,13 +7,13 @@
 --   Least L n s a b c    c other stations are the fewest whose loss parts the two
 use Rattle.std.specs.Prelude.{◌≡◌, Bool, true, false, ◌≢◌, ℕ, ◌<◌, ◌≤◌}
 use mathlib.Core.List.{List, [], ◌∷◌, Memᴰ}
-use Rattle.stations.specs.Sets.{Set, ◌is-in◌, ◌part-of◌, only, ◌without◌, size}
+use Rattle.stations.specs.Sets.{Set, ◌is_in◌, ◌part_of◌, only, ◌without◌, size}
 use Rattle.mesh.specs.Mesh.{Links, Touch}
 
 -- from a over the stations of l, all in s, to b: each is linked to the next
 abbrev pub Chain : Links → Set → ℕ → List ℕ → ℕ → Type 0
 Chain L s a [] b = L a b ≡ true
-Chain L s a (x ∷ l) b = (x is-in s) × (L a x ≡ true) × Chain L s x l b
+Chain L s a (x ∷ l) b = (x is_in s) × (L a x ≡ true) × Chain L s x l b
 
 -- the other stations of s
 abbrev pub others : Set → ℕ → ℕ → Set
@@ -32,8 +32,8 @@ pub record Most (L : Links) (s : Set) (a b c : ℕ) : Type 0 where
 
 -- rule H5: a weak pair, two stations of s that are not linked, with fewer than k routes inside s
 pub record FewRoutes (L : Links) (k : ℕ) (s : Set) (a b : ℕ) : Type 0 where
-  pub one : a is-in s
-  pub two : b is-in s
+  pub one : a is_in s
+  pub two : b is_in s
   pub differ : a ≢ b
   pub unlinked : L a b ≡ false
   pub few : (j : ℕ) → Routes L s a b j → j < k

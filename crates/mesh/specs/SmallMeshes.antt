@@ -6,23 +6,23 @@ use Rattle.mesh.specs.Mesh.{Links, Listed, HOLDS, FEW, WEAK, Answers}
 use Rattle.mesh.specs.Standing.{Standing}
 
 -- the set of the stations in a list
-unfoldable pub setOf : List ℕ → Set
-setOf [] x = false
-setOf (a ∷ l) x = let r = setOf l x in eqb x a || r
+unfoldable pub set_of : List ℕ → Set
+set_of [] x = false
+set_of (a ∷ l) x = let r = set_of l x in eqb x a || r
 
 -- a link, written with its two stations
 infix 70 ◌–◌
 pub data Link : Type 0 where
   ◌–◌ : ℕ → ℕ → Link
 
-unfoldable pub linksOf : List Link → Links
-linksOf [] a b = false
-linksOf (c – d ∷ l) a b = let r = linksOf l a b in (eqb a c && eqb b d) || (eqb a d && eqb b c) || r
+unfoldable pub links_of : List Link → Links
+links_of [] a b = false
+links_of (c – d ∷ l) a b = let r = links_of l a b in (eqb a c && eqb b d) || (eqb a d && eqb b c) || r
 
 -- the rows of a list
 unfoldable pub row_of : List (List ℕ) → ℕ → Set
 row_of [] i = none
-row_of (l ∷ ls) zero = setOf l
+row_of (l ∷ ls) zero = set_of l
 row_of (l ∷ ls) (suc i) = row_of ls i
 
 -- a line of the table: n stations, the links, a level k, and the reply:
@@ -35,11 +35,11 @@ pub data Line : Type 0 where
 
 -- what a line states
 unfoldable pub Right : Line → Type 0
-Right (holds n ls k) = Answers (linksOf ls) n k (stations n) HOLDS
-Right (few n ls k) = Answers (linksOf ls) n k (stations n) FEW
-Right (weak n ls k p) = Answers (linksOf ls) n k (stations n) (WEAK (setOf p))
-Right (groups n ls k gs) = Listed (linksOf ls) n k (length gs) (row_of gs)
-Right (stands n ls a v) = Standing (linksOf ls) n a v
+Right (holds n ls k) = Answers (links_of ls) n k (stations n) HOLDS
+Right (few n ls k) = Answers (links_of ls) n k (stations n) FEW
+Right (weak n ls k p) = Answers (links_of ls) n k (stations n) (WEAK (set_of p))
+Right (groups n ls k gs) = Listed (links_of ls) n k (length gs) (row_of gs)
+Right (stands n ls a v) = Standing (links_of ls) n a v
 
 unfoldable pub All : List Line → Type 0
 All [] = Unit {0}

@@ -3,7 +3,7 @@
 --   Table n t         t is an accepted table of n stations
 --   Fault n t         what refusal 4 speaks of
 use Rattle.std.specs.Prelude.{Bool, true, false, List, ◌≡◌, ℕ, ◌+◌, ◌*◌, ◌<◌, ◌≤◌, length}
-use Rattle.stations.specs.Sets.{Set, ◌is-in◌}
+use Rattle.stations.specs.Sets.{Set, ◌is_in◌}
 use Rattle.stations.specs.Words.{has, row}
 use Rattle.mesh.specs.Mesh.{Links}
 
@@ -13,7 +13,7 @@ linked t v w = has (row t v) w
 
 -- each station of s has its row in the table
 abbrev pub Fits : List ℕ → Set → Type 0
-Fits t s = (j : ℕ) → j is-in s → j * 4 + 4 ≤ length t
+Fits t s = (j : ℕ) → j is_in s → j * 4 + 4 ≤ length t
 
 -- rules S1 and S5: at most 256 stations, four words a station, no station in its own row, each link in both rows, and only stations below n
 pub record Table (n : ℕ) (t : List ℕ) : Type 0 where
@@ -25,6 +25,6 @@ pub record Table (n : ℕ) (t : List ℕ) : Type 0 where
 
 -- what an accepted table has not: card, 4
 pub data Fault (n : ℕ) (t : List ℕ) : Type 0 where
-  self-link : (a : ℕ) → a < n → linked t a a ≡ true → Fault n t
-  one-sided : (a b : ℕ) → a < n → b < n → linked t a b ≡ true → linked t b a ≡ false → Fault n t
-  from-n-up : (a b : ℕ) → a < n → n ≤ b → linked t a b ≡ true → Fault n t
+  self_link : (a : ℕ) → a < n → linked t a a ≡ true → Fault n t
+  one_sided : (a b : ℕ) → a < n → b < n → linked t a b ≡ true → linked t b a ≡ false → Fault n t
+  from_n_up : (a b : ℕ) → a < n → n ≤ b → linked t a b ≡ true → Fault n t

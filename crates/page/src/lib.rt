@@ -3,7 +3,7 @@
 ghost use Rattle.std.specs.Prelude.{◌≡◌, List, ℕ, ◌≤◌, length};
 ghost use Rattle.mesh.specs.Table.{linked};
 ghost use Rattle.page.specs.Page.{Last};
-ghost use Rattle.page.specs.Reply.{number, page-length, Prints};
+ghost use Rattle.page.specs.Reply.{number, page_length, Prints};
 ghost use Rattle.page.specs.Steps.{Fit, LevelPut, Ready, LevelsPut, SurveyReady, SurveyPut, WasRead, AnswerReady, PagePut};
 
 use card::Refusal;
@@ -31,7 +31,7 @@ impl PageAnswer {
 
     // How many bytes the page has.
     pub fn page_length(self) -> usize
-        ensures { result ≡ page-length self }
+        ensures { result ≡ page_length self }
     {
         let answer = self;
         match answer {

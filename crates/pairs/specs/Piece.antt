@@ -6,7 +6,7 @@
 --   WeakOf t p k           the same of all losses of fewer than k
 --   AroundOf t p j l       the same of the losses that have j and fewer than l others, and each of whose islands has a link to j
 use Rattle.std.specs.Prelude.{List, ◌⊎◌, ◌≡◌, ℕ, ◌+◌, ◌≤◌}
-use Rattle.stations.specs.Sets.{Set, ◌is-in◌, ◌part-of◌, ◌without◌, ◌cut◌, size}
+use Rattle.stations.specs.Sets.{Set, ◌is_in◌, ◌part_of◌, ◌without◌, ◌cut◌, size}
 use Rattle.stations.specs.Words.{members}
 use Rattle.stations.specs.declared.StationSet.{StationSet}
 use Rattle.mesh.specs.Mesh.{Links, Mesh, Whole}
@@ -23,7 +23,7 @@ pub record Start (t : List ℕ) (p q N : StationSet) (u : ℕ) : Type 0 where
   pub piece : Piece t p
   pub part : members q part_of members p
   pub inside : members N part_of members q
-  pub source : u is-in members N
+  pub source : u is_in members N
 
 -- r is one of the two sets
 abbrev pub FewerOf : Set → Set → Set → Type 0
@@ -31,8 +31,8 @@ FewerOf s t r = ((x : ℕ) → r x ≡ s x) ⊎ ((x : ℕ) → r x ≡ t x)
 
 -- j has the fewest links inside p
 pub record Fewest (L : Links) (p : Set) (j : ℕ) : Type 0 where
-  pub mine : j is-in p
-  pub least : (x : ℕ) → x is-in p → size 256 (p cut L j) ≤ size 256 (p cut L x)
+  pub mine : j is_in p
+  pub least : (x : ℕ) → x is_in p → size 256 (p cut L j) ≤ size 256 (p cut L x)
 
 -- the stations of p that are taken out
 abbrev pub out_of : StationSet → StationSet → Set
@@ -48,4 +48,4 @@ WeakOf t p k (Pair u v s) = WeakPair (linked t) 256 every k (members p) u v (mem
 
 abbrev pub AroundOf : List ℕ → StationSet → ℕ → ℕ → Settled → Type 0
 AroundOf t p j l Firm = (S : Set) → Around (linked t) 256 every (l + 1) (members p) j S → Whole (linked t) (members p without S)
-AroundOf t p j l (Pair u v s) = WeakPair (linked t) 256 every (l + 1) (members p) u v (members s) × (j is-in members s)
+AroundOf t p j l (Pair u v s) = WeakPair (linked t) 256 every (l + 1) (members p) u v (members s) × (j is_in members s)

@@ -1,5 +1,5 @@
 // The weak pair search: is there a loss of fewer than k stations that leaves a set not whole?
-ghost use Rattle.stations.specs.Sets.{◌is-in◌};
+ghost use Rattle.stations.specs.Sets.{◌is_in◌};
 ghost use Rattle.stations.specs.Words.{members};
 ghost use Rattle.mesh.specs.Table.{linked, Fits};
 ghost use Rattle.pairs.specs.Piece.{Piece, Start, Fewest, SettledOf, WeakOf, AroundOf, FewerOf};
@@ -87,7 +87,7 @@ fn settle(
 
 // A station of p with the fewest links inside it. `from` is any station of p.
 fn fewest(table: &[u64], p: StationSet, from: usize) -> usize
-    requires { Fits table.now (members p) × (from is-in members p) }
+    requires { Fits table.now (members p) × (from is_in members p) }
     ensures { Fewest (linked table.now) (members p) result }
 {
     let mut at = from;
@@ -125,7 +125,7 @@ pub fn weak(table: &[u64], p: StationSet, k: usize) -> Settled
 
 // The same among the losses that have j and at most `most` stations, and each of whose islands has a link to j.
 pub fn around(table: &[u64], p: StationSet, j: usize, most: usize) -> Settled
-    requires { Piece table.now p × (j is-in members p) }
+    requires { Piece table.now p × (j is_in members p) }
     ensures { AroundOf table.now p j most result }
 {
     let links = p.cut(StationSet::of_row(table, j));

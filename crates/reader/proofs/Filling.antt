@@ -16,14 +16,14 @@ use Rattle.mesh.specs.Table.{linked, Table}
 use Rattle.records.specs.Bytes.{Words}
 use Rattle.records.specs.Survey.{serial, low, high, Survey}
 use Rattle.reader.specs.Steps.{Accepted, SerialsFilled, LinkPut, Joins, Filled}
-use Rattle.reader.proofs.Put.{no-link}
+use Rattle.reader.proofs.Put.{no_link}
 
 -- ---- serials
-pub serials-none : (bs s : List ℕ) → SerialsFilled bs 0 s s
-serials-none bs s = record { whole = refl; each = λ k l. absurd (omega arith) }
+pub serials_none : (bs s : List ℕ) → SerialsFilled bs 0 s s
+serials_none bs s = record { whole = refl; each = λ k l. absurd (omega arith) }
 
-pub serials-more : {bs s s' : List ℕ} {i : ℕ} (x : ℕ) → SerialsFilled bs i s s' → i < length s → x ≡ serial 4 bs i → SerialsFilled bs (i + 1) s (set s' i x)
-serials-more {bs} {s} {s'} {i} x F l e = record { whole = length-set s' i x ∙ F.whole; each = λ k h. at k h (ℕ_discrete k i) }
+pub serials_more : {bs s s' : List ℕ} {i : ℕ} (x : ℕ) → SerialsFilled bs i s s' → i < length s → x ≡ serial 4 bs i → SerialsFilled bs (i + 1) s (set s' i x)
+serials_more {bs} {s} {s'} {i} x F l e = record { whole = length-set s' i x ∙ F.whole; each = λ k h. at k h (ℕ_discrete k i) }
   where
     at : (k : ℕ) → k < i + 1 → Dec (k ≡ i) → get_or (set s' i x) k 0 ≡ serial 4 bs k
     at k h (yes q) = rw q (get_or-set_same s' i x 0 (omega (arith, F.whole)) ∙ e)
@@ -31,7 +31,7 @@ serials-more {bs} {s} {s'} {i} x F l e = record { whole = length-set s' i x ∙ 
 
 -- ---- the table
 pub filled_none : (bs t : List ℕ) (n : ℕ) → length t ≡ n * 4 → ((i : ℕ) → get_or t i 0 ≡ 0) → Filled bs n 0 t
-filled_none bs t n e z = record { whole = e; each = λ k x y l. absurd (omega arith); only = λ x y h. never (linked t x y) h (no-link t z x y) }
+filled_none bs t n e z = record { whole = e; each = λ k x y l. absurd (omega arith); only = λ x y h. never (linked t x y) h (no_link t z x y) }
 
 -- the table t'' is t with b in the row of a and a in the row of b
 module _ {bs t t' t'' : List ℕ} {n j : ℕ} (F : Filled bs n j t) (a b : ℕ) (p : a ≡ low 4 n bs j) (q : b ≡ high 4 n bs j)
@@ -67,11 +67,11 @@ module _ {bs t t' t'' : List ℕ} {n j : ℕ} (F : Filled bs n j t) (a b : ℕ) 
 
 -- the two stations of a record
 pub ends : {bs : List ℕ} {n m : ℕ} → Accepted bs n m → (j a b : ℕ) → j < m → a ≡ low 4 n bs j → b ≡ high 4 n bs j → (a < b) × (b < n) × (n ≤ 256)
-ends A j a b l p q = (omega (arith, A.pairs-right.apart j l), omega (arith, A.pairs-right.below j l), A.few)
+ends A j a b l p q = (omega (arith, A.pairs_right.apart j l), omega (arith, A.pairs_right.below j l), A.few)
 
 -- all records are past
-pub filled-all : {bs t : List ℕ} {n j : ℕ} (m : ℕ) → Filled bs n j t → m ≤ j → j ≤ m → Filled bs n m t
-filled-all {bs} {t} {n} m F l h = record {
+pub filled_all : {bs t : List ℕ} {n j : ℕ} (m : ℕ) → Filled bs n j t → m ≤ j → j ≤ m → Filled bs n m t
+filled_all {bs} {t} {n} m F l h = record {
   whole = F.whole;
   each = λ k x y i. F.each k x y (omega arith);
   only = λ x y e. let (k, i, J) = F.only x y e in (k, omega arith, J);
@@ -83,55 +83,55 @@ module _ {bs : List ℕ} {n m : ℕ} (A : Accepted bs n m) {t : List ℕ} (F : F
   turned k x y (inl h) = inr h
   turned k x y (inr h) = inl h
 
-  joined-apart : (k x : ℕ) → k < m → Joins bs n k x x → ⊥
-  joined-apart k x l (inl (e, f)) = omega (arith, A.pairs-right.apart k l)
-  joined-apart k x l (inr (e, f)) = omega (arith, A.pairs-right.apart k l)
+  joined_apart : (k x : ℕ) → k < m → Joins bs n k x x → ⊥
+  joined_apart k x l (inl (e, f)) = omega (arith, A.pairs_right.apart k l)
+  joined_apart k x l (inr (e, f)) = omega (arith, A.pairs_right.apart k l)
 
-  joined-below : (k x y : ℕ) → k < m → Joins bs n k x y → y < n
-  joined-below k x y l (inl (e, f)) = omega (arith, A.pairs-right.below k l)
-  joined-below k x y l (inr (e, f)) = omega (arith, A.pairs-right.apart k l, A.pairs-right.below k l)
+  joined_below : (k x y : ℕ) → k < m → Joins bs n k x y → y < n
+  joined_below k x y l (inl (e, f)) = omega (arith, A.pairs_right.below k l)
+  joined_below k x y l (inr (e, f)) = omega (arith, A.pairs_right.apart k l, A.pairs_right.below k l)
 
-  table-accepted : Table n t
-  table-accepted = record {
+  table_accepted : Table n t
+  table_accepted = record {
     few = A.few;
     long = F.whole;
     apart = λ a. alone a (test (linked t a a));
     both = λ a b h. let (k, l, J) = F.only a b h in F.each k b a l (turned k a b J);
-    below = λ a b h. let (k, l, J) = F.only a b h in joined-below k a b l J;
+    below = λ a b h. let (k, l, J) = F.only a b h in joined_below k a b l J;
   }
     where
       alone : (a : ℕ) → (linked t a a ≡ true) ⊎ (linked t a a ≡ false) → linked t a a ≡ false
-      alone a (inl h) = let (k, l, J) = F.only a a h in absurd (joined-apart k a l J)
+      alone a (inl h) = let (k, l, J) = F.only a a h in absurd (joined_apart k a l J)
       alone a (inr h) = h
 
   upward : (a b k : ℕ) → a < b → k < m → Joins bs n k a b → (low 4 n bs k ≡ a) × (high 4 n bs k ≡ b)
   upward a b k h l (inl J) = J
-  upward a b k h l (inr (e, f)) = absurd (omega (arith, A.pairs-right.apart k l))
+  upward a b k h l (inr (e, f)) = absurd (omega (arith, A.pairs_right.apart k l))
 
-  pub survey-filled : {s s' : List ℕ} → length s ≡ n → SerialsFilled bs n s s' → Words t → Survey 1 n m s' t bs
-  survey-filled long S w = record {
+  pub survey_filled : {s s' : List ℕ} → length s ≡ n → SerialsFilled bs n s s' → Words t → Survey 1 n m s' t bs
+  survey_filled long S w = record {
     one = refl;
     frame = A.frame;
-    all-serials = S.whole ∙ long;
-    serial-is = λ i l. sym (S.each i l);
-    serials-right = A.serials-right;
-    pairs-right = A.pairs-right;
-    accepted = table-accepted;
+    all_serials = S.whole ∙ long;
+    serial_is = λ i l. sym (S.each i l);
+    serials_right = A.serials_right;
+    pairs_right = A.pairs_right;
+    accepted = table_accepted;
     words = w;
-    record-linked = λ j l. F.each j (low 4 n bs j) (high 4 n bs j) l (inl (refl, refl));
-    linked-record = λ a b h e. let (k, l, J) = F.only a b e in let (u, v) = upward a b k h l J in (k, l, u, v);
+    record_linked = λ j l. F.each j (low 4 n bs j) (high 4 n bs j) l (inl (refl, refl));
+    linked_record = λ a b h e. let (k, l, J) = F.only a b e in let (u, v) = upward a b k h l J in (k, l, u, v);
   }
 
 -- ---- zeros
-pub zeros-more : (t : List ℕ) (i : ℕ) → i < length t → ((k : ℕ) → k < i → get_or t k 0 ≡ 0) → (k : ℕ) → k < i + 1 → get_or (set t i 0) k 0 ≡ 0
-zeros-more t i l z k h = go (ℕ_discrete k i)
+pub zeros_more : (t : List ℕ) (i : ℕ) → i < length t → ((k : ℕ) → k < i → get_or t k 0 ≡ 0) → (k : ℕ) → k < i + 1 → get_or (set t i 0) k 0 ≡ 0
+zeros_more t i l z k h = go (ℕ_discrete k i)
   where
     go : Dec (k ≡ i) → get_or (set t i 0) k 0 ≡ 0
     go (yes e) = rw e (get_or-set_same t i 0 0 l)
     go (no d) = get_or-set_other t i k 0 0 d ∙ z k (omega arith)
 
-pub zeros-all : (t : List ℕ) (w : ℕ) → length t ≡ w → ((k : ℕ) → k < w → get_or t k 0 ≡ 0) → (k : ℕ) → get_or t k 0 ≡ 0
-zeros-all t w e z k = go (dec_lt k w)
+pub zeros_all : (t : List ℕ) (w : ℕ) → length t ≡ w → ((k : ℕ) → k < w → get_or t k 0 ≡ 0) → (k : ℕ) → get_or t k 0 ≡ 0
+zeros_all t w e z k = go (dec_lt k w)
   where
     go : Dec (k < w) → get_or t k 0 ≡ 0
     go (yes l) = z k l

@@ -8,12 +8,12 @@ use lib.ListN.{length, get_or, drop}
 use lib.Seq.{take_at, drop_at}
 use Rattle.card.specs.Card.{Test, FirstFailing, earlier}
 use Rattle.card.specs.declared.Refusal.{Refusal}
-use Rattle.card.proofs.Card.{Numbered, Passes, none-fails, first_then, number-above}
+use Rattle.card.proofs.Card.{Numbered, Passes, none_fails, first_then, number_above}
 use Rattle.records.specs.Bytes.{Octets}
 use Rattle.records.specs.Survey.{Mark, version, stations, records, Survey}
-use Rattle.records.specs.Lines.{MARK, VERSION, COUNT, LENGTH, ROOM, SERIAL, LINK, reader-order}
-use Rattle.records.proofs.Climbing.{serials-right, pairs-right}
-use Rattle.records.proofs.Order.{stable, at_most, first-stop, first-go}
+use Rattle.records.specs.Lines.{MARK, VERSION, COUNT, LENGTH, ROOM, SERIAL, LINK, reader_order}
+use Rattle.records.proofs.Climbing.{serials_right, pairs_right}
+use Rattle.records.proofs.Order.{stable, at_most, first_stop, first_go}
 use Rattle.reader.specs.Reply.{Reads}
 use Rattle.reader.specs.declared.ReadAnswer.TheVariants.{Read, Refused}
 use Rattle.reader.specs.Steps.{Accepted}
@@ -25,17 +25,17 @@ pub record Counted (bs : List ℕ) : Type 0 where
   pub most : records bs ≤ 8192
   pub whole : length bs ≡ 9 + stations bs * 4 + records bs * 4
 
-pub mark-numbered : (bs : List ℕ) → Numbered (MARK bs ∷ [])
-mark-numbered bs = (omega arith, tt)
+pub mark_numbered : (bs : List ℕ) → Numbered (MARK bs ∷ [])
+mark_numbered bs = (omega arith, tt)
 
-pub counts-numbered : (bs : List ℕ) → Numbered (VERSION bs ∷ COUNT bs ∷ LENGTH bs ∷ [])
-counts-numbered bs = (omega arith, (omega arith, (omega arith, tt)))
+pub counts_numbered : (bs : List ℕ) → Numbered (VERSION bs ∷ COUNT bs ∷ LENGTH bs ∷ [])
+counts_numbered bs = (omega arith, (omega arith, (omega arith, tt)))
 
-pub order-numbered : (bs : List ℕ) (p q : ℕ) → Numbered (reader-order bs p q)
-order-numbered bs p q = (omega arith, (omega arith, (omega arith, (omega arith, (omega arith, (omega arith, (omega arith, tt)))))))
+pub order_numbered : (bs : List ℕ) (p q : ℕ) → Numbered (reader_order bs p q)
+order_numbered bs p q = (omega arith, (omega arith, (omega arith, (omega arith, (omega arith, (omega arith, (omega arith, tt)))))))
 
-pub mark-passed : (bs : List ℕ) → FirstFailing (MARK bs ∷ []) 0 → (9 ≤ length bs) × Mark bs
-mark-passed bs f = go (none-fails (MARK bs ∷ []) (mark-numbered bs) f)
+pub mark_passed : (bs : List ℕ) → FirstFailing (MARK bs ∷ []) 0 → (9 ≤ length bs) × Mark bs
+mark_passed bs f = go (none_fails (MARK bs ∷ []) (mark_numbered bs) f)
   where
     go : Passes (MARK bs ∷ []) → (9 ≤ length bs) × Mark bs
     go (h, _) = (
@@ -47,8 +47,8 @@ mark-passed bs f = go (none-fails (MARK bs ∷ []) (mark-numbered bs) f)
       ),
     )
 
-pub counts-passed : (bs : List ℕ) → FirstFailing (VERSION bs ∷ COUNT bs ∷ LENGTH bs ∷ []) 0 → Counted bs
-counts-passed bs f = go (none-fails (VERSION bs ∷ COUNT bs ∷ LENGTH bs ∷ []) (counts-numbered bs) f)
+pub counts_passed : (bs : List ℕ) → FirstFailing (VERSION bs ∷ COUNT bs ∷ LENGTH bs ∷ []) 0 → Counted bs
+counts_passed bs f = go (none_fails (VERSION bs ∷ COUNT bs ∷ LENGTH bs ∷ []) (counts_numbered bs) f)
   where
     go : Passes (VERSION bs ∷ COUNT bs ∷ LENGTH bs ∷ []) → Counted bs
     go (v, (c, (l, _))) = record {
@@ -66,18 +66,18 @@ module _ (bs : List ℕ) (serials words : ℕ) where
   abbrev rest : List Test
   rest = ROOM (stations bs) serials words ∷ SERIAL (stations bs) bs ∷ LINK (stations bs) (records bs) bs ∷ []
 
-  pub order-mark : (a : ℕ) → FirstFailing (MARK bs ∷ []) a → (a ≡ 0 → ⊥) → FirstFailing (reader-order bs serials words) a
-  order-mark a f o = first-stop (MARK bs ∷ []) (counts bs ++ rest) a f o
+  pub order_mark : (a : ℕ) → FirstFailing (MARK bs ∷ []) a → (a ≡ 0 → ⊥) → FirstFailing (reader_order bs serials words) a
+  order_mark a f o = first_stop (MARK bs ∷ []) (counts bs ++ rest) a f o
 
-  pub order-counts : (a : ℕ) → FirstFailing (MARK bs ∷ []) 0 → FirstFailing (counts bs) a → (a ≡ 0 → ⊥) → FirstFailing (reader-order bs serials words) a
-  order-counts a f g o = first-go (MARK bs ∷ []) (counts bs ++ rest) a (mark-numbered bs) f (first-stop (counts bs) rest a g o)
+  pub order_counts : (a : ℕ) → FirstFailing (MARK bs ∷ []) 0 → FirstFailing (counts bs) a → (a ≡ 0 → ⊥) → FirstFailing (reader_order bs serials words) a
+  order_counts a f g o = first_go (MARK bs ∷ []) (counts bs ++ rest) a (mark_numbered bs) f (first_stop (counts bs) rest a g o)
 
-  pub order-rest : (n m p q r : ℕ) → FirstFailing (MARK bs ∷ []) 0 → FirstFailing (counts bs) 0 → n ≡ stations bs → m ≡ records bs → FirstFailing (ROOM n serials words ∷ []) p
-      → FirstFailing (SERIAL n bs ∷ LINK n m bs ∷ []) q → r ≡ earlier p q → FirstFailing (reader-order bs serials words) r
-  order-rest n m p q r f g en em room both e =
-      subst (FirstFailing (reader-order bs serials words)) (sym e)
-      (first-go (MARK bs ∷ []) (counts bs ++ rest) (earlier p q) (mark-numbered bs) f
-      (first-go (counts bs) rest (earlier p q) (counts-numbered bs) g
+  pub order_rest : (n m p q r : ℕ) → FirstFailing (MARK bs ∷ []) 0 → FirstFailing (counts bs) 0 → n ≡ stations bs → m ≡ records bs → FirstFailing (ROOM n serials words ∷ []) p
+      → FirstFailing (SERIAL n bs ∷ LINK n m bs ∷ []) q → r ≡ earlier p q → FirstFailing (reader_order bs serials words) r
+  order_rest n m p q r f g en em room both e =
+      subst (FirstFailing (reader_order bs serials words)) (sym e)
+      (first_go (MARK bs ∷ []) (counts bs ++ rest) (earlier p q) (mark_numbered bs) f
+      (first_go (counts bs) rest (earlier p q) (counts_numbered bs) g
       (first_then (ROOM (stations bs) serials words ∷ []) (SERIAL (stations bs) bs ∷ LINK (stations bs) (records bs) bs ∷ []) p q (omega arith, tt)
       (subst (λ (k : ℕ). FirstFailing (ROOM k serials words ∷ []) p) en room)
       (subst₂ (λ (k l : ℕ). FirstFailing (SERIAL k bs ∷ LINK k l bs ∷ []) q) en em both))))
@@ -87,50 +87,50 @@ pub record Passed (bs : List ℕ) (serials words : ℕ) : Type 0 where
   pub accepted : Accepted bs (stations bs) (records bs)
   pub long : 9 ≤ length bs
   pub most : records bs ≤ 8192
-  pub room-serials : stations bs ≤ serials
-  pub room-words : stations bs * 4 ≤ words
+  pub room_serials : stations bs ≤ serials
+  pub room_words : stations bs * 4 ≤ words
 
-pub passed : (bs : List ℕ) (serials words : ℕ) → Octets bs → FirstFailing (reader-order bs serials words) 0 → Passed bs serials words
-passed bs serials words o f = go (none-fails (reader-order bs serials words) (order-numbered bs serials words) f)
+pub passed : (bs : List ℕ) (serials words : ℕ) → Octets bs → FirstFailing (reader_order bs serials words) 0 → Passed bs serials words
+passed bs serials words o f = go (none_fails (reader_order bs serials words) (order_numbered bs serials words) f)
   where
-    go : Passes (reader-order bs serials words) → Passed bs serials words
+    go : Passes (reader_order bs serials words) → Passed bs serials words
     go (mark, (v, (count, (l, (room, (serial, (link, _))))))) =
-        let (nine, m) = mark-passed bs (inr (mark, refl)) in
-        let C = counts-passed bs (inr (v, inr (count, inr (l, refl)))) in
+        let (nine, m) = mark_passed bs (inr (mark, refl)) in
+        let C = counts_passed bs (inr (v, inr (count, inr (l, refl)))) in
         record {
           accepted = record {
             few = C.few;
-            frame = record { octets = o; mark = m; version-is = C.one; stations-are = refl; records-are = refl; whole = C.whole; few-records = C.most };
-            serials-right = serials-right (stations bs) _ serial;
-            pairs-right = pairs-right (stations bs) (records bs) _ _ link;
+            frame = record { octets = o; mark = m; version_is = C.one; stations_are = refl; records_are = refl; whole = C.whole; few_records = C.most };
+            serials_right = serials_right (stations bs) _ serial;
+            pairs_right = pairs_right (stations bs) (records bs) _ _ link;
           };
           long = nine;
           most = C.most;
-          room-serials = at_most (stations bs) serials (λ h. room (inl h));
-          room-words = at_most (stations bs * 4) words (λ h. room (inr h));
+          room_serials = at_most (stations bs) serials (λ h. room (inl h));
+          room_words = at_most (stations bs * 4) words (λ h. room (inr h));
         }
 
-pub accepted-at : {bs : List ℕ} {serials words : ℕ} (n m : ℕ) → Passed bs serials words → n ≡ stations bs → m ≡ records bs → Accepted bs n m
-accepted-at {bs} n m P p q = subst₂ (λ (k l : ℕ). Accepted bs k l) (sym p) (sym q) P.accepted
+pub accepted_at : {bs : List ℕ} {serials words : ℕ} (n m : ℕ) → Passed bs serials words → n ≡ stations bs → m ≡ records bs → Accepted bs n m
+accepted_at {bs} n m P p q = subst₂ (λ (k l : ℕ). Accepted bs k l) (sym p) (sym q) P.accepted
 
 -- ---- the reply
-pub refused-reply : (bs serials table : List ℕ) (r : Refusal) → FirstFailing (reader-order bs (length serials) (length table)) (Rattle.card.specs.Card.number r)
+pub refused_reply : (bs serials table : List ℕ) (r : Refusal) → FirstFailing (reader_order bs (length serials) (length table)) (Rattle.card.specs.Card.number r)
     → Reads bs serials table serials table (Refused r)
-refused-reply bs serials table r f = record {
+refused_reply bs serials table r f = record {
   refused = f;
   kept = λ _. (refl, refl);
-  survey = λ e. absurd (number-above r e);
-  serials-beyond = λ e. absurd (number-above r e);
-  table-beyond = λ e. absurd (number-above r e);
+  survey = λ e. absurd (number_above r e);
+  serials_beyond = λ e. absurd (number_above r e);
+  table_beyond = λ e. absurd (number_above r e);
 }
 
 -- s and t are what the first n serials and the first n * 4 words became
-pub read-reply : (bs serials table s t : List ℕ) (n m : ℕ) → FirstFailing (reader-order bs (length serials) (length table)) 0 → length s ≡ n → length t ≡ n * 4
+pub read_reply : (bs serials table s t : List ℕ) (n m : ℕ) → FirstFailing (reader_order bs (length serials) (length table)) 0 → length s ≡ n → length t ≡ n * 4
     → Survey 1 n m s t bs → Reads bs serials table (s ++ drop n serials) (t ++ drop (n * 4) table) (Read 1 n m)
-read-reply bs serials table s t n m f ls lt S = record {
+read_reply bs serials table s t n m f ls lt S = record {
   refused = f;
   kept = λ o. absurd (o refl);
   survey = λ _. rw (take_at s (drop n serials) n ls, take_at t (drop (n * 4) table) (n * 4) lt) S;
-  serials-beyond = λ _. drop_at s (drop n serials) n ls;
-  table-beyond = λ _. drop_at t (drop (n * 4) table) (n * 4) lt;
+  serials_beyond = λ _. drop_at s (drop n serials) n ls;
+  table_beyond = λ _. drop_at t (drop (n * 4) table) (n * 4) lt;
 }

@@ -4,7 +4,7 @@
 --   Reads bs serials table serials' table' r    r is the reply to the bytes bs, with two lent buffers before and after
 use Rattle.std.specs.Prelude.{List, ◌≡◌, ℕ, ◌*◌, length, take, drop}
 use Rattle.card.specs.Card.{FirstFailing}
-use Rattle.records.specs.Lines.{reader-order}
+use Rattle.records.specs.Lines.{reader_order}
 use Rattle.records.specs.Survey.{Survey}
 use Rattle.reader.specs.declared.ReadAnswer.{ReadAnswer}
 use Rattle.reader.specs.declared.ReadAnswer.TheVariants.{Read, Refused}
@@ -28,11 +28,11 @@ links (Refused r) = 0
 
 pub record Reads (bs serials table serials' table' : List ℕ) (r : ReadAnswer) : Type 0 where
   -- refused exactly when a test fails, by the first that does
-  pub refused : FirstFailing (reader-order bs (length serials) (length table)) (number r)
+  pub refused : FirstFailing (reader_order bs (length serials) (length table)) (number r)
   -- rule C2: a refusal leaves both buffers as they were
   pub kept : (number r ≡ 0 → ⊥) → (serials' ≡ serials) × (table' ≡ table)
   -- rule F4: the first n serials and 4n words are those of the survey that the bytes are
   pub survey : number r ≡ 0 → Survey (version r) (stations r) (links r) (take (stations r) serials') (take (stations r * 4) table') bs
   -- and what is behind them stays
-  pub serials-beyond : number r ≡ 0 → drop (stations r) serials' ≡ drop (stations r) serials
-  pub table-beyond : number r ≡ 0 → drop (stations r * 4) table' ≡ drop (stations r * 4) table
+  pub serials_beyond : number r ≡ 0 → drop (stations r) serials' ≡ drop (stations r) serials
+  pub table_beyond : number r ≡ 0 → drop (stations r * 4) table' ≡ drop (stations r * 4) table

@@ -10,8 +10,8 @@ use Rattle.records.specs.Survey.{Frame, Serials, Pairs, serial, low, high}
 pub record Accepted (bs : List ℕ) (n m : ℕ) : Type 0 where
   pub few : n ≤ 256
   pub frame : Frame 1 4 n m bs
-  pub serials-right : Serials n (serial 4 bs)
-  pub pairs-right : Pairs n m (low 4 n bs) (high 4 n bs)
+  pub serials_right : Serials n (serial 4 bs)
+  pub pairs_right : Pairs n m (low 4 n bs) (high 4 n bs)
 
 pub record SerialsFilled (bs : List ℕ) (i : ℕ) (serials serials' : List ℕ) : Type 0 where
   pub whole : length serials' ≡ length serials

@@ -1,7 +1,7 @@
 // The tests of the reader, in the order 8, 9, 10, 11, 14, 12, 13.
 ghost use Rattle.std.specs.Prelude.{[], ◌∷◌, ◌+◌, ◌*◌, ◌≤◌, length};
 ghost use Rattle.card.specs.Card.{verdict, FirstFailing};
-ghost use Rattle.records.specs.Lines.{MARK, VERSION, COUNT, LENGTH, ROOM, SERIAL, LINK, reader-order};
+ghost use Rattle.records.specs.Lines.{MARK, VERSION, COUNT, LENGTH, ROOM, SERIAL, LINK, reader_order};
 
 use card::{Refusal, Tested};
 
@@ -72,7 +72,7 @@ fn test_records(bytes: &[u8], n: usize, m: usize) -> Tested
 
 // Every test of the reader: 8, 9, 10, 11, 14, 12, 13.
 pub(crate) fn test_file(bytes: &[u8], serials: usize, words: usize) -> Tested
-    ensures { FirstFailing (reader-order bytes.now serials words) (verdict result) }
+    ensures { FirstFailing (reader_order bytes.now serials words) (verdict result) }
 {
     let mark = test_mark(bytes);
     let Tested::Passed = mark else {

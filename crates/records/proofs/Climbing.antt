@@ -7,7 +7,7 @@ use Prim.Native.Nat.{ℕ, zero, suc, ◌+◌, ◌*◌, ◌<◌, ◌≤◌}
 use native.Mathlib.Decide.{dec_lt, ℕ_discrete}
 use native.Mathlib.Omega.{arith}
 use Rattle.records.specs.Survey.{Serials, After, Pairs}
-use Rattle.records.specs.Lines.{SerialFault, a-zero, not-rising, LinkFault, not-apart, not-below, not_after}
+use Rattle.records.specs.Lines.{SerialFault, a_zero, not_rising, LinkFault, not_apart, not_below, not_after}
 use Rattle.records.specs.Steps.{Wrong, crossed, beyond, early}
 
 -- the numbers f 0 .. f (i - 1) rise from `start` up, and the next has to reach the floor
@@ -18,8 +18,8 @@ pub record Climb (start : ℕ) (f : ℕ → ℕ) (i floor : ℕ) : Type 0 where
   pub next : (k : ℕ) → suc k ≡ i → floor ≡ suc (f k)
   pub alone : i ≡ 0 → floor ≡ start
 
-pub climb-none : (start : ℕ) (f : ℕ → ℕ) → Climb start f 0 start
-climb-none start f = record {
+pub climb_none : (start : ℕ) (f : ℕ → ℕ) → Climb start f 0 start
+climb_none start f = record {
   from = λ k l. absurd (omega arith);
   rising = λ k l. absurd (omega arith);
   first = omega arith;
@@ -28,8 +28,8 @@ climb-none start f = record {
 }
 
 module _ {start : ℕ} {f : ℕ → ℕ} {i floor : ℕ} (C : Climb start f i floor) where
-  pub climb-more : (x : ℕ) → x ≡ f i → floor ≤ x → Climb start f (i + 1) (x + 1)
-  climb-more x e l = record {
+  pub climb_more : (x : ℕ) → x ≡ f i → floor ≤ x → Climb start f (i + 1) (x + 1)
+  climb_more x e l = record {
     from = λ k h. from_at k (ℕ_discrete k i) (omega arith);
     rising = λ k h. rise k (ℕ_discrete (suc k) i) (omega arith);
     first = omega (arith, C.first);
@@ -46,16 +46,16 @@ module _ {start : ℕ} {f : ℕ → ℕ} {i floor : ℕ} (C : Climb start f i fl
       rise k (no q) h = C.rising k (omega arith)
 
 -- ---- serials
-pub serials-broken : {f : ℕ → ℕ} {i floor : ℕ} (n : ℕ) → Climb 1 f i floor → i < n → f i < floor → SerialFault n f
-serials-broken {f} {i} {floor} n C l h = go i refl
+pub serials_broken : {f : ℕ → ℕ} {i floor : ℕ} (n : ℕ) → Climb 1 f i floor → i < n → f i < floor → SerialFault n f
+serials_broken {f} {i} {floor} n C l h = go i refl
   where
     go : (k : ℕ) → i ≡ k → SerialFault n f
-    go zero e = a-zero i l (omega (arith, C.alone e))
-    go (suc k) e = not-rising k (omega arith) (omega (arith, C.next k (sym e), ap f e))
+    go zero e = a_zero i l (omega (arith, C.alone e))
+    go (suc k) e = not_rising k (omega arith) (omega (arith, C.next k (sym e), ap f e))
 
-pub serials-passed : {f : ℕ → ℕ} {n k floor : ℕ} → Climb 1 f k floor → n ≤ k → SerialFault n f → ⊥
-serials-passed C h (a-zero i l e) = omega (arith, C.from i (omega arith))
-serials-passed C h (not-rising i l e) = omega (arith, C.rising i (omega arith))
+pub serials_passed : {f : ℕ → ℕ} {n k floor : ℕ} → Climb 1 f k floor → n ≤ k → SerialFault n f → ⊥
+serials_passed C h (a_zero i l e) = omega (arith, C.from i (omega arith))
+serials_passed C h (not_rising i l e) = omega (arith, C.rising i (omega arith))
 
 positive : (x : ℕ) → (x ≡ 0 → ⊥) → 0 < x
 positive x h = omega arith
@@ -64,12 +64,12 @@ above : (x y : ℕ) → (y ≤ x → ⊥) → x < y
 above x y h = omega arith
 
 -- no fault, so the serials are right; and the other way round
-pub serials-right : (n : ℕ) (f : ℕ → ℕ) → ¬ SerialFault n f → Serials n f
-serials-right n f h = record { some = λ i l. positive (f i) (λ e. h (a-zero i l e)); rising = λ i l. above (f i) (f (suc i)) (λ e. h (not-rising i l e)) }
+pub serials_right : (n : ℕ) (f : ℕ → ℕ) → ¬ SerialFault n f → Serials n f
+serials_right n f h = record { some = λ i l. positive (f i) (λ e. h (a_zero i l e)); rising = λ i l. above (f i) (f (suc i)) (λ e. h (not_rising i l e)) }
 
-pub serials-faultless : {n : ℕ} {f : ℕ → ℕ} → Serials n f → ¬ SerialFault n f
-serials-faultless S (a-zero i l e) = omega (arith, S.some i l)
-serials-faultless S (not-rising i l e) = omega (arith, S.rising i l)
+pub serials_faultless : {n : ℕ} {f : ℕ → ℕ} → Serials n f → ¬ SerialFault n f
+serials_faultless S (a_zero i l e) = omega (arith, S.some i l)
+serials_faultless S (not_rising i l e) = omega (arith, S.rising i l)
 
 -- ---- links
 -- the first j links are right, and the next has to reach the floor
@@ -78,29 +78,29 @@ pub record LinkClimb (n : ℕ) (a b : ℕ → ℕ) (j floor : ℕ) : Type 0 wher
   pub below : (k : ℕ) → k < j → b k < n
   pub climb : Climb 0 (λ k. a k * 256 + b k) j floor
 
-pub links-none : (n : ℕ) (a b : ℕ → ℕ) → LinkClimb n a b 0 0
-links-none n a b = record { apart = λ k l. absurd (omega arith); below = λ k l. absurd (omega arith); climb = climb-none 0 (λ k. a k * 256 + b k) }
+pub links_none : (n : ℕ) (a b : ℕ → ℕ) → LinkClimb n a b 0 0
+links_none n a b = record { apart = λ k l. absurd (omega arith); below = λ k l. absurd (omega arith); climb = climb_none 0 (λ k. a k * 256 + b k) }
 
-pub links-more : {n : ℕ} {a b : ℕ → ℕ} {j floor : ℕ} → LinkClimb n a b j floor → (x y : ℕ) → x ≡ a j → y ≡ b j → x < y → y < n → floor ≤ x * 256 + y
+pub links_more : {n : ℕ} {a b : ℕ → ℕ} {j floor : ℕ} → LinkClimb n a b j floor → (x y : ℕ) → x ≡ a j → y ≡ b j → x < y → y < n → floor ≤ x * 256 + y
     → LinkClimb n a b (j + 1) (x * 256 + y + 1)
-links-more {n} {a} {b} {j} {floor} C x y p q l m h = record {
-  apart = λ k i. apart-at k (ℕ_discrete k j) (omega arith);
+links_more {n} {a} {b} {j} {floor} C x y p q l m h = record {
+  apart = λ k i. apart_at k (ℕ_discrete k j) (omega arith);
   below = λ k i. below_at k (ℕ_discrete k j) (omega arith);
-  climb = climb-more C.climb (x * 256 + y) (omega arith) h;
+  climb = climb_more C.climb (x * 256 + y) (omega arith) h;
 }
   where
-    apart-at : (k : ℕ) → Dec (k ≡ j) → k < suc j → a k < b k
-    apart-at k (yes e) i = rw e (omega arith)
-    apart-at k (no e) i = C.apart k (omega arith)
+    apart_at : (k : ℕ) → Dec (k ≡ j) → k < suc j → a k < b k
+    apart_at k (yes e) i = rw e (omega arith)
+    apart_at k (no e) i = C.apart k (omega arith)
 
     below_at : (k : ℕ) → Dec (k ≡ j) → k < suc j → b k < n
     below_at k (yes e) i = rw e (omega arith)
     below_at k (no e) i = C.below k (omega arith)
 
-pub links-broken : {n : ℕ} {a b : ℕ → ℕ} {j floor : ℕ} (m : ℕ) → n ≤ 256 → LinkClimb n a b j floor → j < m → Wrong n floor (a j) (b j) → LinkFault n m a b
-links-broken m s C l (crossed h) = not-apart _ l h
-links-broken m s C l (beyond h i) = not-below _ l i
-links-broken {n} {a} {b} {j} {floor} m s C l (early h i u) = go j refl
+pub links_broken : {n : ℕ} {a b : ℕ → ℕ} {j floor : ℕ} (m : ℕ) → n ≤ 256 → LinkClimb n a b j floor → j < m → Wrong n floor (a j) (b j) → LinkFault n m a b
+links_broken m s C l (crossed h) = not_apart _ l h
+links_broken m s C l (beyond h i) = not_below _ l i
+links_broken {n} {a} {b} {j} {floor} m s C l (early h i u) = go j refl
   where
     late : (k : ℕ) → j ≡ suc k → After (a k) (b k) (a (suc k)) (b (suc k)) → ⊥
     late k e (inl g) = omega (arith, C.climb.next k (sym e), C.below k (omega arith), ap a e, ap b e)
@@ -110,30 +110,30 @@ links-broken {n} {a} {b} {j} {floor} m s C l (early h i u) = go j refl
     go zero e = absurd (omega (arith, C.climb.alone e))
     go (suc k) e = not_after k (omega arith) (late k e)
 
-after-so : (x y x' y' : ℕ) → y < 256 → y' < 256 → x * 256 + y < x' * 256 + y' → After x y x' y'
-after-so x y x' y' p q h = go (dec_lt x x')
+after_so : (x y x' y' : ℕ) → y < 256 → y' < 256 → x * 256 + y < x' * 256 + y' → After x y x' y'
+after_so x y x' y' p q h = go (dec_lt x x')
   where
     go : Dec (x < x') → After x y x' y'
     go (yes l) = inl l
     go (no l) = inr (omega arith, omega arith)
 
-pub pairs-climbed : {n : ℕ} {a b : ℕ → ℕ} {m k floor : ℕ} → n ≤ 256 → LinkClimb n a b k floor → m ≤ k → Pairs n m a b
-pairs-climbed {n} {a} {b} s C h = record {
+pub pairs_climbed : {n : ℕ} {a b : ℕ → ℕ} {m k floor : ℕ} → n ≤ 256 → LinkClimb n a b k floor → m ≤ k → Pairs n m a b
+pairs_climbed {n} {a} {b} s C h = record {
   apart = λ j l. C.apart j (omega arith);
   below = λ j l. C.below j (omega arith);
-  rising = λ j l. after-so (a j) (b j) (a (suc j)) (b (suc j)) (omega (arith, C.below j (omega arith))) (omega (arith, C.below (suc j) (omega arith))) (C.climb.rising j (omega arith));
+  rising = λ j l. after_so (a j) (b j) (a (suc j)) (b (suc j)) (omega (arith, C.below j (omega arith))) (omega (arith, C.below (suc j) (omega arith))) (C.climb.rising j (omega arith));
 }
 
-pub pairs-faultless : {n m : ℕ} {a b : ℕ → ℕ} → Pairs n m a b → ¬ LinkFault n m a b
-pairs-faultless P (not-apart j l h) = omega (arith, P.apart j l)
-pairs-faultless P (not-below j l h) = omega (arith, P.below j l)
-pairs-faultless P (not_after j l h) = h (P.rising j l)
+pub pairs_faultless : {n m : ℕ} {a b : ℕ → ℕ} → Pairs n m a b → ¬ LinkFault n m a b
+pairs_faultless P (not_apart j l h) = omega (arith, P.apart j l)
+pairs_faultless P (not_below j l h) = omega (arith, P.below j l)
+pairs_faultless P (not_after j l h) = h (P.rising j l)
 
 -- the rule can be decided, so no fault says that the pairs are right
-pub pairs-right : (n m : ℕ) (a b : ℕ → ℕ) → ¬ LinkFault n m a b → Pairs n m a b
-pairs-right n m a b h = record {
-  apart = λ j l. above (a j) (b j) (λ e. h (not-apart j l e));
-  below = λ j l. above (b j) n (λ e. h (not-below j l e));
+pub pairs_right : (n m : ℕ) (a b : ℕ → ℕ) → ¬ LinkFault n m a b → Pairs n m a b
+pairs_right n m a b h = record {
+  apart = λ j l. above (a j) (b j) (λ e. h (not_apart j l e));
+  below = λ j l. above (b j) n (λ e. h (not_below j l e));
   rising = λ j l. so j l (dec_lt (a j) (a (suc j))) (ℕ_discrete (a j) (a (suc j))) (dec_lt (b j) (b (suc j)));
 }
   where

@@ -18,50 +18,50 @@ kept_trans K L h = record { whole = L.whole ∙ K.whole; same = λ i l. L.same i
 pub kept_less : {at at' : ℕ} {bs bs' : List ℕ} → Kept at' bs bs' → at ≤ at' → Kept at bs bs'
 kept_less K h = record { whole = K.whole; same = λ i l. K.same i (omega arith) }
 
-pub short-kept : {at : ℕ} {bs bs' : List ℕ} (i : ℕ) → Kept at bs bs' → i + 2 ≤ at → short bs' i ≡ short bs i
+pub short_kept : {at : ℕ} {bs bs' : List ℕ} (i : ℕ) → Kept at bs bs' → i + 2 ≤ at → short bs' i ≡ short bs i
 unfolding short
-short-kept i K h = ap₂ (λ (x y : ℕ). x + y * 256) (K.same i (omega arith)) (K.same (i + 1) (omega arith))
+short_kept i K h = ap₂ (λ (x y : ℕ). x + y * 256) (K.same i (omega arith)) (K.same (i + 1) (omega arith))
 
 pub long_kept : {at : ℕ} {bs bs' : List ℕ} (i : ℕ) → Kept at bs bs' → i + 4 ≤ at → long bs' i ≡ long bs i
 unfolding long
-long_kept i K h = ap₂ (λ (x y : ℕ). x + y * 65536) (short-kept i K (omega arith)) (short-kept (i + 2) K (omega arith))
+long_kept i K h = ap₂ (λ (x y : ℕ). x + y * 65536) (short_kept i K (omega arith)) (short_kept (i + 2) K (omega arith))
 
 -- ---- what is put
-pub set-kept : (bs : List ℕ) (at u : ℕ) → Kept at bs (set bs at u)
-set-kept bs at u = record { whole = length-set bs at u; same = λ i l. get_or-set_other bs at i u 0 (λ e. omega arith) }
+pub set_kept : (bs : List ℕ) (at u : ℕ) → Kept at bs (set bs at u)
+set_kept bs at u = record { whole = length-set bs at u; same = λ i l. get_or-set_other bs at i u 0 (λ e. omega arith) }
 
-pub two-kept : (bs : List ℕ) (at u v : ℕ) → Kept at bs (set (set bs at u) (at + 1) v)
-two-kept bs at u v = kept_trans (set-kept bs at u) (set-kept (set bs at u) (at + 1) v) (omega arith)
+pub two_kept : (bs : List ℕ) (at u v : ℕ) → Kept at bs (set (set bs at u) (at + 1) v)
+two_kept bs at u v = kept_trans (set_kept bs at u) (set_kept (set bs at u) (at + 1) v) (omega arith)
 
-pub two-short : (bs : List ℕ) (at x : ℕ) → at + 2 ≤ length bs → short (set (set bs at (x % 256)) (at + 1) (x / 256)) at ≡ x
+pub two_short : (bs : List ℕ) (at x : ℕ) → at + 2 ≤ length bs → short (set (set bs at (x % 256)) (at + 1) (x / 256)) at ≡ x
 unfolding short
-two-short bs at x h =
+two_short bs at x h =
     ap₂ (λ (p q : ℕ). p + q * 256)
     (get_or-set_other (set bs at (x % 256)) (at + 1) at (x / 256) 0 (λ e. omega arith) ∙ get_or-set_same bs at (x % 256) 0 (omega arith))
     (get_or-set_same (set bs at (x % 256)) (at + 1) (x / 256) 0 (omega (arith, length-set bs at (x % 256))))
     ∙ omega arith
 
 -- two numbers of 16 bits are one of 32
-pub two-long : {bs bs' : List ℕ} (at x : ℕ) → Kept (at + 2) bs bs' → short bs at ≡ x % 65536 → short bs' (at + 2) ≡ x / 65536 → long bs' at ≡ x
+pub two_long : {bs bs' : List ℕ} (at x : ℕ) → Kept (at + 2) bs bs' → short bs at ≡ x % 65536 → short bs' (at + 2) ≡ x / 65536 → long bs' at ≡ x
 unfolding long
-two-long at x K p q = ap₂ (λ (u v : ℕ). u + v * 65536) (short-kept at K (omega arith) ∙ p) q ∙ omega arith
+two_long at x K p q = ap₂ (λ (u v : ℕ). u + v * 65536) (short_kept at K (omega arith) ∙ p) q ∙ omega arith
 
 -- ---- numbers and bytes
-pub short-small : (bs : List ℕ) (i : ℕ) → Octets bs → short bs i < 65536
+pub short_small : (bs : List ℕ) (i : ℕ) → Octets bs → short bs i < 65536
 unfolding short
-short-small bs i o = omega (arith, o i, o (i + 1))
+short_small bs i o = omega (arith, o i, o (i + 1))
 
-pub short-bytes : (bs bs' : List ℕ) (i : ℕ) → Octets bs → Octets bs' → short bs i ≡ short bs' i → (get_or bs i 0 ≡ get_or bs' i 0) × (get_or bs (i + 1) 0 ≡ get_or bs' (i + 1) 0)
+pub short_bytes : (bs bs' : List ℕ) (i : ℕ) → Octets bs → Octets bs' → short bs i ≡ short bs' i → (get_or bs i 0 ≡ get_or bs' i 0) × (get_or bs (i + 1) 0 ≡ get_or bs' (i + 1) 0)
 unfolding short
-short-bytes bs bs' i o o' e = (omega (arith, o i, o (i + 1), o' i, o' (i + 1)), omega (arith, o i, o (i + 1), o' i, o' (i + 1)))
+short_bytes bs bs' i o o' e = (omega (arith, o i, o (i + 1), o' i, o' (i + 1)), omega (arith, o i, o (i + 1), o' i, o' (i + 1)))
 
-pub long-shorts : (bs bs' : List ℕ) (i : ℕ) → Octets bs → Octets bs' → long bs i ≡ long bs' i → (short bs i ≡ short bs' i) × (short bs (i + 2) ≡ short bs' (i + 2))
+pub long_shorts : (bs bs' : List ℕ) (i : ℕ) → Octets bs → Octets bs' → long bs i ≡ long bs' i → (short bs i ≡ short bs' i) × (short bs (i + 2) ≡ short bs' (i + 2))
 unfolding long
-long-shorts bs bs' i o o' e =
-    let p = short-small bs i o in
-    let p' = short-small bs' i o' in
-    let q = short-small bs (i + 2) o in
-    let q' = short-small bs' (i + 2) o' in
+long_shorts bs bs' i o o' e =
+    let p = short_small bs i o in
+    let p' = short_small bs' i o' in
+    let q = short_small bs (i + 2) o in
+    let q' = short_small bs' (i + 2) o' in
     (omega (arith, p, p', q, q'), omega (arith, p, p', q, q'))
 
 -- ---- the front of a list whose elements are all below a bound

@@ -3,7 +3,7 @@
 --   Serials n f                    the serials f 0 .. f (n - 1) are right
 --   Pairs n m a b                  the links (a 0, b 0) .. (a (m - 1), b (m - 1)) are right
 --   Survey v n m serials table bs  the bytes bs are the survey of these serials and this table
---   links table, link-count n table    the links as a set of numbers a * 256 + b, a < b, and how many there are
+--   links table, link_count n table    the links as a set of numbers a * 256 + b, a < b, and how many there are
 -- A further version is a further size s of a station and a further record beside Survey; Frame, Serials and the places stay.
 use Rattle.std.specs.Prelude.{true, ◌&&◌, List, ◌⊎◌, ◌≡◌, ℕ, suc, ◌+◌, ◌*◌, ◌/◌, ◌%◌, ◌<◌, ◌≤◌, ltb, length, get_or}
 use Rattle.stations.specs.Sets.{Set, size}
@@ -26,13 +26,13 @@ records bs = short bs 7
 pub record Frame (v s n m : ℕ) (bs : List ℕ) : Type 0 where
   pub octets : Octets bs
   pub mark : Mark bs
-  pub version-is : version bs ≡ v
-  pub stations-are : stations bs ≡ n
-  pub records-are : records bs ≡ m
+  pub version_is : version bs ≡ v
+  pub stations_are : stations bs ≡ n
+  pub records_are : records bs ≡ m
   -- rule F2: not a byte more or less
   pub whole : length bs ≡ 9 + n * s + m * 4
   -- the most records that a file has
-  pub few-records : m ≤ 8192
+  pub few_records : m ≤ 8192
 
 -- the serial of station i, where a station has s bytes
 abbrev pub serial : ℕ → List ℕ → ℕ → ℕ
@@ -63,20 +63,20 @@ pub record Pairs (n m : ℕ) (a b : ℕ → ℕ) : Type 0 where
 pub record Survey (v n m : ℕ) (serials table bs : List ℕ) : Type 0 where
   pub one : v ≡ 1
   pub frame : Frame v 4 n m bs
-  pub all-serials : length serials ≡ n
-  pub serial-is : (i : ℕ) → i < n → serial 4 bs i ≡ get_or serials i 0
-  pub serials-right : Serials n (serial 4 bs)
-  pub pairs-right : Pairs n m (low 4 n bs) (high 4 n bs)
+  pub all_serials : length serials ≡ n
+  pub serial_is : (i : ℕ) → i < n → serial 4 bs i ≡ get_or serials i 0
+  pub serials_right : Serials n (serial 4 bs)
+  pub pairs_right : Pairs n m (low 4 n bs) (high 4 n bs)
   -- the table is an accepted one, and its links are those of the records
   pub accepted : Table n table
   pub words : Words table
-  pub record-linked : (j : ℕ) → j < m → linked table (low 4 n bs j) (high 4 n bs j) ≡ true
-  pub linked-record : (a b : ℕ) → a < b → linked table a b ≡ true → (j : ℕ) × (j < m) × (low 4 n bs j ≡ a) × (high 4 n bs j ≡ b)
+  pub record_linked : (j : ℕ) → j < m → linked table (low 4 n bs j) (high 4 n bs j) ≡ true
+  pub linked_record : (a b : ℕ) → a < b → linked table a b ≡ true → (j : ℕ) × (j < m) × (low 4 n bs j ≡ a) × (high 4 n bs j ≡ b)
 
 -- the links of a table, each once: the number a * 256 + b for a link of a and b with a < b
 unfoldable pub links : List ℕ → Set
 links t x = linked t (x / 256) (x % 256) && ltb (x / 256) (x % 256)
 
 -- how many links a table of n stations has
-abbrev pub link-count : ℕ → List ℕ → ℕ
-link-count n t = size (n * 256) (links t)
+abbrev pub link_count : ℕ → List ℕ → ℕ
+link_count n t = size (n * 256) (links t)

@@ -2,7 +2,7 @@
 ghost use Rattle.std.specs.Prelude.{[], ◌∷◌, ◌≡◌, ◌+◌, ◌*◌, ◌<◌, ◌≤◌, length};
 ghost use Rattle.card.specs.Card.{verdict, FirstFailing};
 ghost use Rattle.records.specs.Bytes.{short, long, Octets, Kept};
-ghost use Rattle.records.specs.Lines.{SERIAL, LINK, GIVEN-SERIAL};
+ghost use Rattle.records.specs.Lines.{SERIAL, LINK, GIVEN_SERIAL};
 ghost use Rattle.records.specs.Steps.{SerialAt, LinkAt};
 
 use card::{Refusal, Tested};
@@ -135,7 +135,7 @@ pub fn test_links(bytes: &[u8], n: usize, m: usize) -> Tested
 
 // 12, of the serials that a writer is given: n of them, none 0, each above the one before.
 pub fn test_given(n: usize, serials: &[u32]) -> Tested
-    ensures { FirstFailing (GIVEN-SERIAL n serials.now ∷ []) (verdict result) }
+    ensures { FirstFailing (GIVEN_SERIAL n serials.now ∷ []) (verdict result) }
 {
     if serials.len() != n {
         return Tested::Failed(Refusal::Serial);

@@ -10,9 +10,9 @@ use Rattle.stations.specs.Sets.{stations}
 use Rattle.stations.proofs.Bools.{never}
 use Rattle.mesh.specs.Table.{linked, Table}
 use Rattle.mesh.specs.Routes.{Most, Least}
-use Rattle.linkage.proofs.Routes.{most-one, least-one}
+use Rattle.linkage.proofs.Routes.{most_one, least_one}
 use Rattle.card.specs.Card.{PAIR}
-use Rattle.card.proofs.Card.{none-given, number-above, table-passes}
+use Rattle.card.proofs.Card.{none_given, number_above, table_passes}
 use Rattle.routes.specs.declared.Answer.{Answer}
 use Rattle.routes.specs.declared.Answer.TheVariants.{Counted, Joined, Refused}
 use Rattle.routes.specs.Reply.{number, count, order, Replies}
@@ -20,7 +20,7 @@ use Rattle.routes.specs.Reply.{number, count, order, Replies}
 module _ (n : ℕ) (t : List ℕ) (a b : ℕ) (r : Answer) (p : Replies n t a b r) where
   -- good input is never refused
   pub answers : Table n t → a < n → b < n → a ≢ b → number r ≡ 0
-  answers T l m d = none-given (order n t a b) (number r) p.refused (table-passes n t (PAIR n a b ∷ []) T (pair, tt))
+  answers T l m d = none_given (order n t a b) (number r) p.refused (table_passes n t (PAIR n a b ∷ []) T (pair, tt))
     where
       pair : ¬ (PAIR n a b).fails
       pair (inl x) = omega arith
@@ -28,13 +28,13 @@ module _ (n : ℕ) (t : List ℕ) (a b : ℕ) (r : Answer) (p : Replies n t a b 
       pair (inr (inr x)) = d x
 
   module _ (answered : number r ≡ 0) where
-    pub linked-joined : linked t a b ≡ true → r ≡ Joined
-    linked-joined e = go r p answered
+    pub linked_joined : linked t a b ≡ true → r ≡ Joined
+    linked_joined e = go r p answered
       where
         go : (r : Answer) → Replies n t a b r → number r ≡ 0 → r ≡ Joined
-        go (Counted c) q z = never (linked t a b) e (sym (q.linked-pair refl))
+        go (Counted c) q z = never (linked t a b) e (sym (q.linked_pair refl))
         go Joined q z = refl
-        go (Refused x) q z = absurd (number-above x z)
+        go (Refused x) q z = absurd (number_above x z)
 
     module _ (unlinked : linked t a b ≡ false) where
       -- the reply is a count: the greatest number of separate routes, and the smallest number of other stations whose loss parts the two
@@ -43,14 +43,14 @@ module _ (n : ℕ) (t : List ℕ) (a b : ℕ) (r : Answer) (p : Replies n t a b 
         where
           go : (r : Answer) → Replies n t a b r → number r ≡ 0 → r ≡ Counted (count r)
           go (Counted c) q z = refl
-          go Joined q z = never (linked t a b) (sym (q.linked-pair refl)) unlinked
-          go (Refused x) q z = absurd (number-above x z)
+          go Joined q z = never (linked t a b) (sym (q.linked_pair refl)) unlinked
+          go (Refused x) q z = absurd (number_above x z)
 
       -- so c is replied exactly when it is the one, and exactly when it is the other
-      pub most-exactly : (c : ℕ) → (r ≡ Counted c) ↔ Most (linked t) (stations n) a b c
+      pub most_exactly : (c : ℕ) → (r ≡ Counted c) ↔ Most (linked t) (stations n) a b c
       unfolding counted
-      most-exactly c = (λ e. subst (Most (linked t) (stations n) a b) (ap count e) counted.2, λ m. counted.1 ∙ ap Counted (most-one (linked t) (stations n) a b (count r) c counted.2 m))
+      most_exactly c = (λ e. subst (Most (linked t) (stations n) a b) (ap count e) counted.2, λ m. counted.1 ∙ ap Counted (most_one (linked t) (stations n) a b (count r) c counted.2 m))
 
-      pub least-exactly : (c : ℕ) → (r ≡ Counted c) ↔ Least (linked t) n (stations n) a b c
+      pub least_exactly : (c : ℕ) → (r ≡ Counted c) ↔ Least (linked t) n (stations n) a b c
       unfolding counted
-      least-exactly c = (λ e. subst (Least (linked t) n (stations n) a b) (ap count e) counted.3, λ m. counted.1 ∙ ap Counted (least-one (linked t) n (stations n) a b (count r) c counted.3 m))
+      least_exactly c = (λ e. subst (Least (linked t) n (stations n) a b) (ap count e) counted.3, λ m. counted.1 ∙ ap Counted (least_one (linked t) n (stations n) a b (count r) c counted.3 m))

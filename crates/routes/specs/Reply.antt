@@ -6,7 +6,7 @@ use Rattle.std.specs.Prelude.{Bool, true, false, List, [], ◌∷◌, ◌≡◌,
 use Rattle.stations.specs.Sets.{stations}
 use Rattle.mesh.specs.Table.{linked}
 use Rattle.mesh.specs.Routes.{Most, Least}
-use Rattle.card.specs.Card.{Test, FirstFailing, STATIONS, TABLE-LENGTH, TABLE, PAIR}
+use Rattle.card.specs.Card.{Test, FirstFailing, STATIONS, TABLE_LENGTH, TABLE, PAIR}
 use Rattle.routes.specs.declared.Answer.{Answer}
 use Rattle.routes.specs.declared.Answer.TheVariants.{Counted, Joined, Refused}
 
@@ -27,13 +27,13 @@ count Joined = 0
 count (Refused r) = 0
 
 abbrev pub order : ℕ → List ℕ → ℕ → ℕ → List Test
-order n t a b = STATIONS n ∷ TABLE-LENGTH n t ∷ TABLE n t ∷ PAIR n a b ∷ []
+order n t a b = STATIONS n ∷ TABLE_LENGTH n t ∷ TABLE n t ∷ PAIR n a b ∷ []
 
 pub record Replies (n : ℕ) (t : List ℕ) (a b : ℕ) (r : Answer) : Type 0 where
   -- refused exactly when a test fails, by the first that does
   pub refused : FirstFailing (order n t a b) (number r)
   -- rule R3: joined exactly for a linked pair
-  pub linked-pair : number r ≡ 0 → joined r ≡ linked t a b
+  pub linked_pair : number r ≡ 0 → joined r ≡ linked t a b
   -- rule R1: for a pair without a link, the greatest number of separate routes
   pub most : number r ≡ 0 → linked t a b ≡ false → Most (linked t) (stations n) a b (count r)
   -- rule R2: and the smallest loss of other stations that parts the two

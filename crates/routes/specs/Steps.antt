@@ -22,6 +22,6 @@ pub record Accepted (n : ℕ) (t : List ℕ) (a b : ℕ) : Type 0 where
 
 pub record Answered (n : ℕ) (t : List ℕ) (a b : ℕ) (r : Answer) : Type 0 where
   pub given : number r ≡ 0
-  pub linked-pair : joined r ≡ linked t a b
+  pub linked_pair : joined r ≡ linked t a b
   pub most : linked t a b ≡ false → Most (linked t) (stations n) a b (count r)
   pub least : linked t a b ≡ false → Least (linked t) n (stations n) a b (count r)

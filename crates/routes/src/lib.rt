@@ -1,6 +1,6 @@
 // The routes question: how many separate routes lead between two stations.
 ghost use Rattle.std.specs.Prelude.{◌≡◌};
-ghost use Rattle.stations.specs.Sets.{one-if};
+ghost use Rattle.stations.specs.Sets.{one_if};
 ghost use Rattle.routes.specs.Reply.{number, joined, count, Replies};
 ghost use Rattle.routes.specs.Steps.{up_to, Accepted, Answered};
 
@@ -31,7 +31,7 @@ impl Answer {
 
     // 1 for a linked pair.
     pub fn joined(self) -> u64
-        ensures { result ≡ one-if (joined self) }
+        ensures { result ≡ one_if (joined self) }
     {
         let answer = self;
         match answer {

@@ -1,4 +1,4 @@
--- A station in a group at a level is in one at each lower level, since what holds at k holds below (level-down) and lies in a group (in_group). So a
+-- A station in a group at a level is in one at each lower level, since what holds at k holds below (level_down) and lies in a group (in_group). So a
 -- station in no group at v + 1 stands at v if it is in one at v.
 use mathlib.Core.Bool.{Bool, true, false}
 use mathlib.Core.List.{List, [], ◌∷◌, ◌++◌}
@@ -8,23 +8,23 @@ use Prim.Native.Nat.{ℕ, ◌+◌, ◌*◌, ◌<◌, ◌≤◌}
 use native.Mathlib.Decide.{dec_le, dec_lt}
 use native.Mathlib.Omega.{arith}
 use lib.ListN.{length}
-use Rattle.stations.specs.Sets.{Set, ◌is-in◌, stations}
+use Rattle.stations.specs.Sets.{Set, ◌is_in◌, stations}
 use Rattle.stations.specs.Words.{members}
 use Rattle.stations.specs.declared.StationSet.{StationSet}
 use Rattle.mesh.specs.Mesh.{Links, Mesh, Group, Listed}
 use Rattle.mesh.specs.Standing.{Standing, PairStanding}
 use Rattle.mesh.specs.Table.{linked, Table}
-use Rattle.mesh.proofs.Pruning.{level-down}
+use Rattle.mesh.proofs.Pruning.{level_down}
 use Rattle.mesh.proofs.Covered.{in_group}
 use Rattle.card.specs.declared.Refusal.{Refusal}
-use Rattle.card.specs.Card.{Test, FirstFailing, earlier, table-order, Says, STATION, PAIR}
-use Rattle.card.proofs.Card.{Numbered, Passes, first_then, table-numbered, table-passed, number-above, rows_pass}
-use Rattle.card.proofs.TableTest.{table-mesh}
+use Rattle.card.specs.Card.{Test, FirstFailing, earlier, table_order, Says, STATION, PAIR}
+use Rattle.card.proofs.Card.{Numbered, Passes, first_then, table_numbered, table_passed, number_above, rows_pass}
+use Rattle.card.proofs.TableTest.{table_mesh}
 use Rattle.listing.specs.List as listing
 use Rattle.listing.specs.List.{set_at}
 use Rattle.listing.proofs.AllStations as all
 use Rattle.standings.specs.declared.Answer.TheVariants.{Stands, Refused}
-use Rattle.standings.specs.Reply.{ROWS-AT-ALL, Replies}
+use Rattle.standings.specs.Reply.{ROWS_AT_ALL, Replies}
 use Rattle.standings.specs.Steps.{Named, InGroup, Asked}
 
 -- ---- one level: the list of all stations in 512 words
@@ -33,11 +33,11 @@ module _ (n : ℕ) (t : List ℕ) (a k : ℕ) (A : Asked n t a k) (l : List ℕ)
   asked = all.asked n t k A.table A.above l room set law
 
   module _ (l' : List ℕ) (g : ℕ) (f : listing.Listing t (members set) k l l' g) where
-    pub rows-room : g * 4 ≤ length l'
-    rows-room = all.rows-room n t k A.table A.above l room set law l' g f
+    pub rows_room : g * 4 ≤ length l'
+    rows_room = all.rows_room n t k A.table A.above l room set law l' g f
 
     pub told : (r : Bool) → Says (Named l' g a) r → Says (InGroup t n k a) r
-    told r s = record { yes-so = λ e. one (s.yes-so e); not_so = λ e h. s.not_so e (back h) }
+    told r s = record { yes_so = λ e. one (s.yes_so e); not_so = λ e h. s.not_so e (back h) }
       where
         L : Listed (linked t) n k g (set_at l')
         L = all.listed n t k A.table A.above l room set law l' g f
@@ -49,37 +49,37 @@ module _ (n : ℕ) (t : List ℕ) (a k : ℕ) (A : Asked n t a k) (l : List ℕ)
         back (s, G, e) = let (i, h, q) = L.groups.all s G in (i, h, ap (λ (z : Set). z a) (sym q) ∙ e)
 
 -- ---- upward through the levels
-lower : (L : Links) (n j k a : ℕ) → Mesh L → j ≤ k → (s : Set) × Group L n k s × (a is-in s) → (s : Set) × Group L n j s × (a is-in s)
-lower L n j k a m l (s, G, e) = let (u, H, f) = in_group L n j m s (level-down L n j k s l G.holds) in (u, H, f a e)
+lower : (L : Links) (n j k a : ℕ) → Mesh L → j ≤ k → (s : Set) × Group L n k s × (a is_in s) → (s : Set) × Group L n j s × (a is_in s)
+lower L n j k a m l (s, G, e) = let (u, H, f) = in_group L n j m s (level_down L n j k s l G.holds) in (u, H, f a e)
 
 module _ (n : ℕ) (t : List ℕ) (a : ℕ) (A : Asked n t a 1) where
   pub stands : (v : ℕ) → v ≤ 16 → (0 < v → InGroup t n v a) → (v < 16 → ¬ InGroup t n (v + 1) a) → Standing (linked t) n a v
   stands v h held not = record { top = h; reached = held; largest = λ k s x y G e. go k s y G e (dec_le k v) }
     where
-      go : (k : ℕ) (s : Set) → k ≤ 16 → Group (linked t) n k s → a is-in s → Dec (k ≤ v) → k ≤ v
+      go : (k : ℕ) (s : Set) → k ≤ 16 → Group (linked t) n k s → a is_in s → Dec (k ≤ v) → k ≤ v
       go k s y G e (yes d) = d
-      go k s y G e (no d) = absurd (not (omega arith) (lower (linked t) n (v + 1) k a (table-mesh A.table) (omega arith) (s, G, e)))
+      go k s y G e (no d) = absurd (not (omega arith) (lower (linked t) n (v + 1) k a (table_mesh A.table) (omega arith) (s, G, e)))
 
-pub pair-stands : (L : Links) (n a b p q v : ℕ) → Standing L n a p → Standing L n b q → (v ≤ p) × (v ≤ q) × ((v ≡ p) ⊎ (v ≡ q)) → PairStanding L n a b v
-pair-stands L n a b p q v P Q s = record { one = p; two = q; first = P; second = Q; smaller = s }
+pub pair_stands : (L : Links) (n a b p q v : ℕ) → Standing L n a p → Standing L n b q → (v ≤ p) × (v ≤ q) × ((v ≡ p) ⊎ (v ≡ q)) → PairStanding L n a b v
+pair_stands L n a b p q v P Q s = record { one = p; two = q; first = P; second = Q; smaller = s }
 
 -- ---- the tests, one after the other: the table's, then the question's own, then 15, which never fails
 module _ (n : ℕ) (t : List ℕ) (own : Test) (above : 0 < own.refusal) where
-  pub ordered : (p q r : ℕ) → FirstFailing (table-order n t) p → FirstFailing (own ∷ []) q → r ≡ earlier p q → FirstFailing (table-order n t ++ (own ∷ ROWS-AT-ALL n t ∷ [])) r
-  ordered p q r f g e = subst (FirstFailing (table-order n t ++ (own ∷ ROWS-AT-ALL n t ∷ []))) (sym e) (first_then (table-order n t) (own ∷ ROWS-AT-ALL n t ∷ []) p q (table-numbered n t) f (last g))
+  pub ordered : (p q r : ℕ) → FirstFailing (table_order n t) p → FirstFailing (own ∷ []) q → r ≡ earlier p q → FirstFailing (table_order n t ++ (own ∷ ROWS_AT_ALL n t ∷ [])) r
+  ordered p q r f g e = subst (FirstFailing (table_order n t ++ (own ∷ ROWS_AT_ALL n t ∷ []))) (sym e) (first_then (table_order n t) (own ∷ ROWS_AT_ALL n t ∷ []) p q (table_numbered n t) f (last g))
     where
-      last : FirstFailing (own ∷ []) q → FirstFailing (own ∷ ROWS-AT-ALL n t ∷ []) q
+      last : FirstFailing (own ∷ []) q → FirstFailing (own ∷ ROWS_AT_ALL n t ∷ []) q
       last (inl x) = inl x
       last (inr x) = inr (x.0, inr (λ (k, a, b, f). rows_pass n t k f, x.1))
 
-  pub passed : (r : ℕ) (a : ℕ) → FirstFailing (table-order n t ++ (own ∷ ROWS-AT-ALL n t ∷ [])) r → r ≡ 0 → Asked n t a 1
+  pub passed : (r : ℕ) (a : ℕ) → FirstFailing (table_order n t ++ (own ∷ ROWS_AT_ALL n t ∷ [])) r → r ≡ 0 → Asked n t a 1
   passed r a f e = record {
-    table = (table-passed n t (own ∷ ROWS-AT-ALL n t ∷ []) (above, (omega arith, tt)) (subst (FirstFailing (table-order n t ++ (own ∷ ROWS-AT-ALL n t ∷ []))) e f)).0;
+    table = (table_passed n t (own ∷ ROWS_AT_ALL n t ∷ []) (above, (omega arith, tt)) (subst (FirstFailing (table_order n t ++ (own ∷ ROWS_AT_ALL n t ∷ []))) e f)).0;
     above = omega arith;
   }
 
 pub replied : (ts : List Test) (P : ℕ → Type 0) (v r : ℕ) → FirstFailing ts v → v ≡ 0 → P r → Replies ts P (Stands r)
 replied ts P v r f e p = record { refused = subst (FirstFailing ts) e f; right = λ _. p }
 
-pub refused-reply : (ts : List Test) (P : ℕ → Type 0) (r : Refusal) → FirstFailing ts (Rattle.card.specs.Card.number r) → Replies ts P (Refused r)
-refused-reply ts P r f = record { refused = f; right = λ e. absurd (number-above r e) }
+pub refused_reply : (ts : List Test) (P : ℕ → Type 0) (r : Refusal) → FirstFailing ts (Rattle.card.specs.Card.number r) → Replies ts P (Refused r)
+refused_reply ts P r f = record { refused = f; right = λ e. absurd (number_above r e) }

@@ -3,7 +3,7 @@ ghost use Rattle.std.specs.Prelude.{◌≡◌, ℕ, ◌*◌, ◌≤◌, length};
 ghost use Rattle.mesh.specs.Table.{linked};
 ghost use Rattle.mesh.specs.Standing.{Standing, PairStanding};
 ghost use Rattle.card.specs.Card.{Says};
-ghost use Rattle.standings.specs.Reply.{number, level, Replies, station-order, pair-order};
+ghost use Rattle.standings.specs.Reply.{number, level, Replies, station_order, pair_order};
 ghost use Rattle.standings.specs.Steps.{Named, InGroup, Asked};
 
 use card::{Refusal, Tested};
@@ -98,7 +98,7 @@ fn smaller(n: usize, table: &[u64], a: usize, b: usize) -> usize
 
 // The standing of a station. Refusals in the order 2, 3, 4, 7.
 pub fn station_standing(n: usize, table: &[u64], a: usize) -> Answer
-    ensures { Replies (station-order n table.now a) (Standing (linked table.now) n a) result }
+    ensures { Replies (station_order n table.now a) (Standing (linked table.now) n a) result }
 {
     let of_table = card::test_table(n, table);
     let of_station = card::test_station(n, a);
@@ -114,7 +114,7 @@ pub fn station_standing(n: usize, table: &[u64], a: usize) -> Answer
 
 // The standing of a pair. Refusals in the order 2, 3, 4, 7.
 pub fn pair_standing(n: usize, table: &[u64], a: usize, b: usize) -> Answer
-    ensures { Replies (pair-order n table.now a b) (PairStanding (linked table.now) n a b) result }
+    ensures { Replies (pair_order n table.now a b) (PairStanding (linked table.now) n a b) result }
 {
     let of_table = card::test_table(n, table);
     let of_pair = card::test_pair(n, a, b);

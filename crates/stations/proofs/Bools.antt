@@ -11,9 +11,9 @@ test false = inr refl
 pub never {ℓ} : {A : Type ℓ} (b : Bool) → b ≡ true → b ≡ false → A
 never b p q = absurd (true≢false (sym p ∙ q))
 
-pub not-true : (b : Bool) → not b ≡ true → b ≡ false
-not-true true h = absurd (false≢true h)
-not-true false h = refl
+pub not_true : (b : Bool) → not b ≡ true → b ≡ false
+not_true true h = absurd (false≢true h)
+not_true false h = refl
 
 pub not_so : (b : Bool) → ¬ (b ≡ true) → b ≡ false
 not_so true h = absurd (h refl)
@@ -30,9 +30,9 @@ and_right false b h = absurd (false≢true h)
 pub and_in : (a b : Bool) → a ≡ true → b ≡ true → a && b ≡ true
 and_in a b p q = cc
 
-pub and-off : (a b : Bool) → a && b ≡ false → a ≡ true → b ≡ false
-and-off true b h p = h
-and-off false b h p = absurd (false≢true p)
+pub and_off : (a b : Bool) → a && b ≡ false → a ≡ true → b ≡ false
+and_off true b h p = h
+and_off false b h p = absurd (false≢true p)
 
 pub or_cases : (a b : Bool) → a || b ≡ true → (a ≡ true) ⊎ (b ≡ true)
 or_cases true b h = inl refl

@@ -1,7 +1,7 @@
 -- What the questions about sets answer.
 use Rattle.std.specs.Prelude.{Bool, true, false, List, [], ◌≡◌, ℕ, ◌<◌, length}
 use Rattle.std.specs.Borrow.{Bor}
-use Rattle.stations.specs.Sets.{Set, ◌is-in◌, ◌not-in◌, Before}
+use Rattle.stations.specs.Sets.{Set, ◌is_in◌, ◌not_in◌, Before}
 use Rattle.stations.specs.Words.{has}
 use Rattle.stations.specs.declared.Found.{Found}
 use Rattle.stations.specs.declared.Found.TheVariants.{At, Nothing}
@@ -9,7 +9,7 @@ use Rattle.stations.specs.declared.Found.TheVariants.{At, Nothing}
 -- j is the smallest station of the set
 pub record Least (s : Set) (j : ℕ) : Type 0 where
   pub small : j < 256
-  pub mine : j is-in s
+  pub mine : j is_in s
   pub below : (x : ℕ) → x < j → x not_in s
 
 -- the smallest station, or none

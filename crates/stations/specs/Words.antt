@@ -25,5 +25,5 @@ abbrev pub row : List ℕ → ℕ → List ℕ
 row t i = get_or t (i * 4) 0 ∷ get_or t (i * 4 + 1) 0 ∷ get_or t (i * 4 + 2) 0 ∷ get_or t (i * 4 + 3) 0 ∷ []
 
 -- the table t with the words a b c d for its row i
-abbrev pub putRow : List ℕ → ℕ → ℕ → ℕ → ℕ → ℕ → List ℕ
-putRow t i a b c d = set (set (set (set t (i * 4) a) (i * 4 + 1) b) (i * 4 + 2) c) (i * 4 + 3) d
+abbrev pub put_row : List ℕ → ℕ → ℕ → ℕ → ℕ → ℕ → List ℕ
+put_row t i a b c d = set (set (set (set t (i * 4) a) (i * 4 + 1) b) (i * 4 + 2) c) (i * 4 + 3) d

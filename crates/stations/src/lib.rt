@@ -3,7 +3,7 @@ ghost use Rattle.std.specs.Prelude.{◌≡◌, ℕ, ◌+◌, ◌*◌, ◌<◌, �
 ghost use Rattle.std.specs.Bool.{xor};
 ghost use Rattle.std.specs.Int.Count.{ones, count_trailing_zeros};
 ghost use Rattle.stations.specs.Sets.{none, only, stations, size, ◌joined◌, ◌cut◌, ◌without◌};
-ghost use Rattle.stations.specs.Words.{bit, words, members, row, putRow};
+ghost use Rattle.stations.specs.Words.{bit, words, members, row, put_row};
 ghost use Rattle.stations.specs.Answers.{FirstOf, Emptiness, Sameness, Order, FirstRow};
 
 #[derive(Drop)]
@@ -111,7 +111,7 @@ impl StationSet {
     // The set's words into the row i of a table.
     pub fn put_row(self, t: &mut [u64], i: usize)
         requires { i * 4 + 4 ≤ length t.old }
-        ensures { t.new ≡ putRow t.old i self.a self.b self.c self.d }
+        ensures { t.new ≡ put_row t.old i self.a self.b self.c self.d }
     {
         let at = i * 4;
         t[at] = self.a;

@@ -8,7 +8,7 @@ use Rattle.stations.specs.Words.{members}
 use Rattle.stations.specs.declared.StationSet.{StationSet}
 use Rattle.mesh.specs.Table.{linked}
 use Rattle.search.specs.Losses.{every, WeakPair, Safe}
-use Rattle.search.proofs.Reply.{pair-loss, weak-at}
+use Rattle.search.proofs.Reply.{pair_loss, weak_at}
 use Rattle.pairs.specs.Piece.{Piece, WeakOf}
 use Rattle.verdicts.specs.Verdicts.{SmallestOf, SmallestWeak}
 use Rattle.pairs.specs.declared.Settled.{Settled}
@@ -23,20 +23,20 @@ pub record Lower (t : List ℕ) (p : StationSet) (k l : ℕ) (r : Settled) : Typ
   pub most : l ≤ k
   pub best : Best t p k l r
 
-pub lower-turn : (t : List ℕ) (p : StationSet) (k l : ℕ) (r : Settled) → Lower t p k l r → (u v : ℕ) (s : StationSet) (l' : ℕ) → WeakOf t p l (Pair u v s) → l' ≡ size 256 (members s)
+pub lower_turn : (t : List ℕ) (p : StationSet) (k l : ℕ) (r : Settled) → Lower t p k l r → (u v : ℕ) (s : StationSet) (l' : ℕ) → WeakOf t p l (Pair u v s) → l' ≡ size 256 (members s)
     → Lower t p k l' (Pair u v s)
-lower-turn t p k l r h u v s l' w e = record {
+lower_turn t p k l r h u v s l' w e = record {
   most = omega (arith, h.most, w.loss.few, e);
   best = (record { loss = record { part = w.loss.part; free = w.loss.free; few = omega (arith, h.most, w.loss.few) }; one = w.one; two = w.two; parted = w.parted }, sym e);
 }
 
-pub lower-end : (t : List ℕ) (p : StationSet) (k l : ℕ) (r : Settled) → Lower t p k l r → WeakOf t p l Firm → SmallestOf t p k r
-lower-end t p k l Firm h w = subst (λ (j : ℕ). Safe (linked t) 256 every j (members p)) h.best w
-lower-end t p k l (Pair u v s) h w = (h.best.0, subst (λ (j : ℕ). Safe (linked t) 256 every j (members p)) (sym h.best.1) w)
+pub lower_end : (t : List ℕ) (p : StationSet) (k l : ℕ) (r : Settled) → Lower t p k l r → WeakOf t p l Firm → SmallestOf t p k r
+lower_end t p k l Firm h w = subst (λ (j : ℕ). Safe (linked t) 256 every j (members p)) h.best w
+lower_end t p k l (Pair u v s) h w = (h.best.0, subst (λ (j : ℕ). Safe (linked t) 256 every j (members p)) (sym h.best.1) w)
 
 -- at level 0 there is no loss to look for
-pub lower-zero : (t : List ℕ) (p : StationSet) (k l : ℕ) (r : Settled) → Lower t p k l r → l ≤ 0 → SmallestOf t p k r
-lower-zero t p k l r h z = lower-end t p k l r h (λ S x. absurd (omega (arith, x.few)))
+pub lower_zero : (t : List ℕ) (p : StationSet) (k l : ℕ) (r : Settled) → Lower t p k l r → l ≤ 0 → SmallestOf t p k r
+lower_zero t p k l r h z = lower_end t p k l r h (λ S x. absurd (omega (arith, x.few)))
 
-pub smallest-least : (t : List ℕ) (p : StationSet) (k u v : ℕ) (s : StationSet) → Piece t p → SmallestOf t p k (Pair u v s) → SmallestWeak t p s
-smallest-least t p k u v s h w = record { piece = h; small = record { weak = weak-at (size 256 (members s) + 1) (omega arith) (pair-loss w.0); count = refl }; safe = w.1 }
+pub smallest_least : (t : List ℕ) (p : StationSet) (k u v : ℕ) (s : StationSet) → Piece t p → SmallestOf t p k (Pair u v s) → SmallestWeak t p s
+smallest_least t p k u v s h w = record { piece = h; small = record { weak = weak_at (size 256 (members s) + 1) (omega arith) (pair_loss w.0); count = refl }; safe = w.1 }

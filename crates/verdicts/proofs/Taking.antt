@@ -3,18 +3,18 @@ use mathlib.Core.List.{List}
 use mathlib.Core.Path.{◌≡◌, refl, sym, ◌∙◌, subst, subst₂, fun_ext}
 use Prim.Native.Nat.{ℕ, ◌+◌, ◌-◌, ◌<◌, ◌≤◌}
 use native.Mathlib.Omega.{arith}
-use Rattle.stations.specs.Sets.{Set, ◌is-in◌, ◌not-in◌, ◌part-of◌, only, none, ◌without◌, ◌joined◌, size}
+use Rattle.stations.specs.Sets.{Set, ◌is_in◌, ◌not_in◌, ◌part_of◌, only, none, ◌without◌, ◌joined◌, size}
 use Rattle.stations.specs.Words.{members}
 use Rattle.stations.specs.Answers.{Least}
 use Rattle.stations.specs.declared.StationSet.{StationSet}
 use Rattle.stations.proofs.Bools.{never, or_left, or_right}
-use Rattle.stations.proofs.Members.{in_without, of-without}
+use Rattle.stations.proofs.Members.{in_without, of_without}
 use Rattle.mesh.specs.Mesh.{Whole, WeakSet}
 use Rattle.mesh.specs.Table.{linked}
 use Rattle.search.specs.Losses.{every, WeakPair, Smallest, Safe, Around}
-use Rattle.search.proofs.FirstLoss.{Taking, fresh, taking-begin, taking-witness, taking-more, taking-end, taking-pass, taking-take}
-use Rattle.search.proofs.SmallestLoss.{smallest-part, smallest-size, witness-next, none-around}
-use Rattle.search.proofs.Reply.{pair-loss, weak-set}
+use Rattle.search.proofs.FirstLoss.{Taking, fresh, taking_begin, taking_witness, taking_more, taking_end, taking_pass, taking_take}
+use Rattle.search.proofs.SmallestLoss.{smallest_part, smallest_size, witness_next, none_around}
+use Rattle.search.proofs.Reply.{pair_loss, weak_set}
 use Rattle.pairs.specs.Piece.{Piece, AroundOf}
 use Rattle.verdicts.specs.Verdicts.{SmallestWeak, Trial, Led}
 use Rattle.pairs.specs.declared.Settled.TheVariants.{Firm, Pair}
@@ -22,34 +22,34 @@ use Rattle.pairs.proofs.Starts.{below}
 
 -- ---- a station j is tried
 module _ {t : List ℕ} {p taken witness : StationSet} {j left : ℕ} (h : Trial t p taken witness j left) where
-  pub led-has : j is-in members witness → Led t p taken j left witness
-  led-has g = record { leads = h.leads; none = λ o. never (members witness j) g o }
+  pub led_has : j is_in members witness → Led t p taken j left witness
+  led_has g = record { leads = h.leads; none = λ o. never (members witness j) g o }
 
   part : members taken part_of members p
   part x g = h.leads.small.weak.loss.part x (h.leads.has x g)
 
   -- in p without the taken stations
   module _ (rest : StationSet) (lr : (x : ℕ) → members rest x ≡ (members p without members taken) x) where
-    pub led-piece : Piece t rest × (j is-in members rest)
-    led-piece = (
-      record { fits = λ x g. h.piece.fits x (of-without (members p) (members taken) x (sym (lr x) ∙ g)).0; mesh = h.piece.mesh },
+    pub led_piece : Piece t rest × (j is_in members rest)
+    led_piece = (
+      record { fits = λ x g. h.piece.fits x (of_without (members p) (members taken) x (sym (lr x) ∙ g)).0; mesh = h.piece.mesh },
       lr j ∙ in_without (members p) (members taken) j h.mine h.fresh,
     )
 
-    pub led-found : (u v : ℕ) (s r : StationSet) → AroundOf t rest j left (Pair u v s) → ((x : ℕ) → members r x ≡ (members s joined members taken) x) → Led t p taken j left r
-    led-found u v s r a e = record {
+    pub led_found : (u v : ℕ) (s r : StationSet) → AroundOf t rest j left (Pair u v s) → ((x : ℕ) → members r x ≡ (members s joined members taken) x) → Led t p taken j left r
+    led_found u v s r a e = record {
       leads = record {
         small = subst (Smallest (linked t) 256 every (size 256 (members taken) + left) (members p)) (sym (fun_ext e))
-            (witness-next left part (λ x g. refl) refl h.safe (members s) (pair-loss (subst (λ (z : Set). WeakPair (linked t) 256 every (left + 1) z u v (members s)) (fun_ext lr) a.0)));
+            (witness_next left part (λ x g. refl) refl h.safe (members s) (pair_loss (subst (λ (z : Set). WeakPair (linked t) 256 every (left + 1) z u v (members s)) (fun_ext lr) a.0)));
         has = λ x g. e x ∙ or_right (members s x) (members taken x) g;
       };
       none = λ o. never (members r j) (e j ∙ or_left (members s j) (members taken j) a.1) o;
     }
 
-    pub led-none : AroundOf t rest j left Firm → Led t p taken j left witness
-    led-none a = record {
+    pub led_none : AroundOf t rest j left Firm → Led t p taken j left witness
+    led_none a = record {
       leads = h.leads;
-      none = λ o s l g. none-around left part (λ x g. refl) refl h.safe j h.piece.mesh (below p) h.fresh
+      none = λ o s l g. none_around left part (λ x g. refl) refl h.safe j h.piece.mesh (below p) h.fresh
           (subst (λ (z : Set). (S : Set) → Around (linked t) 256 every (left + 1) z j S → Whole (linked t) (z without S)) (fun_ext lr) a) s l.small l.has g;
     }
 
@@ -57,10 +57,10 @@ module _ {t : List ℕ} {p taken witness : StationSet} {j left : ℕ} (h : Trial
 abbrev pub Takes : List ℕ → StationSet → ℕ → StationSet → StationSet → StationSet → ℕ → Type 0
 Takes t p c taken witness rest left = Taking 256 (Smallest (linked t) 256 every c (members p)) (members p) c (members taken) (members witness) (members rest) left
 
-pub take-begin : (t : List ℕ) (p s taken : StationSet) (c : ℕ) → SmallestWeak t p s → c ≡ size 256 (members s) → ((x : ℕ) → members taken x ≡ none x) → Takes t p c taken s p c
-take-begin t p s taken c h e lt =
+pub take_begin : (t : List ℕ) (p s taken : StationSet) (c : ℕ) → SmallestWeak t p s → c ≡ size 256 (members s) → ((x : ℕ) → members taken x ≡ none x) → Takes t p c taken s p c
+take_begin t p s taken c h e lt =
     subst (λ (z : Set). Taking 256 (Smallest (linked t) 256 every c (members p)) (members p) c z (members s) (members p) c) (sym (fun_ext lt))
-    (taking-begin smallest-part smallest-size (members s) (subst (λ (i : ℕ). Smallest (linked t) 256 every i (members p) (members s)) (sym e) h.small))
+    (taking_begin smallest_part smallest_size (members s) (subst (λ (i : ℕ). Smallest (linked t) 256 every i (members p) (members s)) (sym e) h.small))
 
 module _ (t : List ℕ) (p : StationSet) (c : ℕ) (taken witness rest : StationSet) (left : ℕ) (h : Takes t p c taken witness rest left) where
   abbrev Small : ℕ → Set → Type 0
@@ -68,33 +68,33 @@ module _ (t : List ℕ) (p : StationSet) (c : ℕ) (taken witness rest : Station
 
   -- j is the next station
   module _ (j : ℕ) (l : Least (members rest) j) where
-    pub take-trial : Piece t p → Safe (linked t) 256 every c (members p) → Trial t p taken witness j left
-    take-trial piece safe = record {
+    pub take_trial : Piece t p → Safe (linked t) 256 every c (members p) → Trial t p taken witness j left
+    take_trial piece safe = record {
       piece = piece;
       leads = record { small = subst (λ (i : ℕ). Small i (members witness)) (sym h.count) h.sought; has = h.has };
       safe = subst (λ (i : ℕ). Safe (linked t) 256 every i (members p)) (sym h.count) safe;
       mine = h.inside j l.mine;
-      fresh = fresh smallest-part smallest-size h j l.mine;
+      fresh = fresh smallest_part smallest_size h j l.mine;
     }
 
     module _ (w rest' : StationSet) (led : Led t p taken j left w) (lr : (x : ℕ) → members rest' x ≡ (members rest without only j) x) where
       sought : Small c (members w)
       sought = subst (λ (i : ℕ). Small i (members w)) h.count led.leads.small
 
-      pub take_in : (taken' : StationSet) → j is-in members w → ((x : ℕ) → members taken' x ≡ (members taken joined only j) x) → 0 < left → Takes t p c taken' w rest' (left - 1)
+      pub take_in : (taken' : StationSet) → j is_in members w → ((x : ℕ) → members taken' x ≡ (members taken joined only j) x) → 0 < left → Takes t p c taken' w rest' (left - 1)
       take_in taken' g lt pos =
           subst₂ (λ (y z : Set). Taking 256 (Small c) (members p) c y (members w) z (left - 1)) (sym (fun_ext lt)) (sym (fun_ext lr))
-          (taking-take smallest-part smallest-size h j l.mine l.below (members w) sought led.leads.has g (below p) pos)
+          (taking_take smallest_part smallest_size h j l.mine l.below (members w) sought led.leads.has g (below p) pos)
 
       pub take_out : j not_in members w → Takes t p c taken w rest' left
       take_out o =
           subst (λ (z : Set). Taking 256 (Small c) (members p) c (members taken) (members w) z left) (sym (fun_ext lr))
-          (taking-pass smallest-part smallest-size (taking-witness smallest-part smallest-size h (members w) sought led.leads.has) j l.mine l.below
+          (taking_pass smallest_part smallest_size (taking_witness smallest_part smallest_size h (members w) sought led.leads.has) j l.mine l.below
           (λ q m sub g. led.none o q (record { small = subst (λ (i : ℕ). Small i q) (sym h.count) m; has = sub }) g))
 
   -- while some are to be taken, some are left to try
-  pub take-stuck : 0 < left → ((x : ℕ) → x not_in members rest) → ⊥
-  take-stuck pos z = let (x, i, g) = taking-more smallest-part smallest-size h (below p) pos in never (members rest x) g (z x)
+  pub take_stuck : 0 < left → ((x : ℕ) → x not_in members rest) → ⊥
+  take_stuck pos z = let (x, i, g) = taking_more smallest_part smallest_size h (below p) pos in never (members rest x) g (z x)
 
-  pub take-end : left ≤ 0 → Safe (linked t) 256 every c (members p) → (k : ℕ) → c < k → WeakSet (linked t) 256 k (members p) (members taken)
-  take-end z safe = let (w, first) = taking-end smallest-part smallest-size h (below p) (omega arith) in weak-set safe w first
+  pub take_end : left ≤ 0 → Safe (linked t) 256 every c (members p) → (k : ℕ) → c < k → WeakSet (linked t) 256 k (members p) (members taken)
+  take_end z safe = let (w, first) = taking_end smallest_part smallest_size h (below p) (omega arith) in weak_set safe w first

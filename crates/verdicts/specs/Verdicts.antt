@@ -5,7 +5,7 @@
 --   JudgedOf L k s         the verdict alone, with some loss
 --   reply                  the reply of the holding question, as mesh/specs has it
 use Rattle.std.specs.Prelude.{List, ℕ, ◌+◌, ◌<◌}
-use Rattle.stations.specs.Sets.{Set, ◌is-in◌, ◌not-in◌, ◌part-of◌, size}
+use Rattle.stations.specs.Sets.{Set, ◌is_in◌, ◌not_in◌, ◌part_of◌, size}
 use Rattle.stations.specs.Words.{members}
 use Rattle.stations.specs.declared.StationSet.{StationSet}
 use Rattle.mesh.specs.Mesh.{Links, WeakSet, Reply, HOLDS, FEW, WEAK, Answers}
@@ -41,13 +41,13 @@ pub record Trial (t : List ℕ) (p taken witness : StationSet) (j left : ℕ) : 
   pub piece : Piece t p
   pub leads : Leads t p taken left (members witness)
   pub safe : Safe (linked t) 256 every (size 256 (members taken) + left) (members p)
-  pub mine : j is-in members p
+  pub mine : j is_in members p
   pub fresh : j not_in members taken
 
 -- r does, and has j if any such loss has it
 pub record Led (t : List ℕ) (p taken : StationSet) (j left : ℕ) (r : StationSet) : Type 0 where
   pub leads : Leads t p taken left (members r)
-  pub none : j not_in members r → (s : Set) → Leads t p taken left s → j is-in s → ⊥
+  pub none : j not_in members r → (s : Set) → Leads t p taken left s → j is_in s → ⊥
 
 abbrev pub reply : Answer → Reply
 reply Holds = HOLDS

@@ -3,13 +3,13 @@
 --   Put N s lo hi at r bs bs'    bs became bs' by listing them, and r is the place after the last
 --   Ready n m serials table room, FilePut    before and after a whole file is put
 use Rattle.std.specs.Prelude.{List, ◌≡◌, ℕ, ◌+◌, ◌*◌, ◌/◌, ◌%◌, ◌<◌, ◌≤◌, length, get_or}
-use Rattle.stations.specs.Sets.{Set, ◌is-in◌, size}
+use Rattle.stations.specs.Sets.{Set, ◌is_in◌, size}
 use Rattle.mesh.specs.Table.{Table}
 use Rattle.records.specs.Bytes.{short, Kept}
-use Rattle.records.specs.Survey.{Mark, version, stations, records, serial, links, link-count}
+use Rattle.records.specs.Survey.{Mark, version, stations, records, serial, links, link_count}
 
 abbrev pub Laid : ℕ → Set → (ℕ → ℕ) → (ℕ → ℕ) → ℕ → List ℕ → Type 0
-Laid N s lo hi at bs = (x : ℕ) → x < N → x is-in s → (short bs (at + size x s * 4) ≡ lo x) × (short bs (at + size x s * 4 + 2) ≡ hi x)
+Laid N s lo hi at bs = (x : ℕ) → x < N → x is_in s → (short bs (at + size x s * 4) ≡ lo x) × (short bs (at + size x s * 4 + 2) ≡ hi x)
 
 pub record Put (N : ℕ) (s : Set) (lo hi : ℕ → ℕ) (at r : ℕ) (bs bs' : List ℕ) : Type 0 where
   pub next : r ≡ at + size N s * 4
@@ -21,8 +21,8 @@ pub record HeadPut (n m : ℕ) (bs bs' : List ℕ) : Type 0 where
   pub whole : length bs' ≡ length bs
   pub mark : Mark bs'
   pub one : version bs' ≡ 1
-  pub stations-are : stations bs' ≡ n
-  pub records-are : records bs' ≡ m
+  pub stations_are : stations bs' ≡ n
+  pub records_are : records bs' ≡ m
 
 pub record SerialsPut (n : ℕ) (serials bs bs' : List ℕ) : Type 0 where
   pub kept : Kept 9 bs bs'
@@ -34,12 +34,12 @@ LinksPut n t at r bs bs' = Put (n * 256) (links t) (λ x. x / 256) (λ x. x % 25
 
 pub record Ready (n m : ℕ) (serials t : List ℕ) (room : ℕ) : Type 0 where
   pub table : Table n t
-  pub all-serials : length serials ≡ n
-  pub counted : m ≡ link-count n t
+  pub all_serials : length serials ≡ n
+  pub counted : m ≡ link_count n t
   pub most : m ≤ 8192
   pub exact : room ≡ 9 + n * 4 + m * 4
 
 pub record FilePut (n m : ℕ) (serials t bs bs' : List ℕ) : Type 0 where
   pub head : HeadPut n m bs bs'
-  pub serials-are : (i : ℕ) → i < n → serial 4 bs' i ≡ get_or serials i 0
-  pub links-are : Laid (n * 256) (links t) (λ x. x / 256) (λ x. x % 256) (9 + n * 4) bs'
+  pub serials_are : (i : ℕ) → i < n → serial 4 bs' i ≡ get_or serials i 0
+  pub links_are : Laid (n * 256) (links t) (λ x. x / 256) (λ x. x % 256) (9 + n * 4) bs'

@@ -4,8 +4,8 @@ ghost use Rattle.stations.specs.Words.{members};
 ghost use Rattle.mesh.specs.Table.{linked, Table};
 ghost use Rattle.card.specs.Card.{verdict, FirstFailing};
 ghost use Rattle.records.specs.Bytes.{Words};
-ghost use Rattle.records.specs.Survey.{link-count};
-ghost use Rattle.records.specs.Lines.{LINK-COUNT, FILE-ROOM, writer-order};
+ghost use Rattle.records.specs.Survey.{link_count};
+ghost use Rattle.records.specs.Lines.{LINK_COUNT, FILE_ROOM, writer_order};
 
 use card::{Refusal, Tested};
 use stations::StationSet;
@@ -21,7 +21,7 @@ pub(crate) fn above(table: &[u64], a: usize) -> StationSet
 // How many links a table has.
 pub(crate) fn count_links(table: &[u64], n: usize) -> usize
     requires { Table n table.now }
-    ensures { (result ≡ link-count n table.now) × (result ≤ 65536) × Words table.now }
+    ensures { (result ≡ link_count n table.now) × (result ≤ 65536) × Words table.now }
 {
     let mut m = 0;
     for a in 0..n {
@@ -33,7 +33,7 @@ pub(crate) fn count_links(table: &[u64], n: usize) -> usize
 // 10, 14: at most 8,192 links, and room for the file.
 fn test_size(n: usize, table: &[u64], room: usize) -> Tested
     requires { Table n table.now }
-    ensures { FirstFailing (LINK-COUNT n table.now ∷ FILE-ROOM n table.now room ∷ []) (verdict result) }
+    ensures { FirstFailing (LINK_COUNT n table.now ∷ FILE_ROOM n table.now room ∷ []) (verdict result) }
 {
     let m = count_links(table, n);
     if 8192 < m {
@@ -47,7 +47,7 @@ fn test_size(n: usize, table: &[u64], room: usize) -> Tested
 
 // Every test of the writer: 2, 3, 4, 12, 10, 14.
 pub(crate) fn test_survey(n: usize, serials: &[u32], table: &[u64], room: usize) -> Tested
-    ensures { FirstFailing (writer-order n serials.now table.now room) (verdict result) }
+    ensures { FirstFailing (writer_order n serials.now table.now room) (verdict result) }
 {
     let of_table = card::test_table(n, table);
     let Tested::Passed = of_table else {

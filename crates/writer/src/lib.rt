@@ -1,6 +1,6 @@
 // The writer of survey files. Every refusal is decided before the first store.
 ghost use Rattle.std.specs.Prelude.{◌≡◌};
-ghost use Rattle.writer.specs.Reply.{number, file-length, Writes};
+ghost use Rattle.writer.specs.Reply.{number, file_length, Writes};
 
 use card::{Refusal, Tested};
 
@@ -27,7 +27,7 @@ impl WriteAnswer {
     }
 
     pub fn file_length(self) -> usize
-        ensures { result ≡ file-length self }
+        ensures { result ≡ file_length self }
     {
         let answer = self;
         match answer {

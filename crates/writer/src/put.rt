@@ -4,7 +4,7 @@ ghost use Rattle.stations.specs.Sets.{size};
 ghost use Rattle.stations.specs.Words.{bit, members};
 ghost use Rattle.mesh.specs.Table.{Table};
 ghost use Rattle.records.specs.Bytes.{short, Kept};
-ghost use Rattle.records.specs.Survey.{link-count};
+ghost use Rattle.records.specs.Survey.{link_count};
 ghost use Rattle.writer.specs.Steps.{Put, HeadPut, SerialsPut, LinksPut, Ready, FilePut};
 
 use stations::StationSet;
@@ -69,7 +69,7 @@ fn put_row(bytes: &mut [u8], at: usize, a: usize, row: StationSet) -> usize
 
 // Every link of the table.
 fn put_links(bytes: &mut [u8], at: usize, table: &[u64], n: usize) -> usize
-    requires { Table n table.now × (at + link-count n table.now * 4 ≤ length bytes.old) }
+    requires { Table n table.now × (at + link_count n table.now * 4 ≤ length bytes.old) }
     ensures { LinksPut n table.now at result bytes.old bytes.new }
 {
     let mut place = at;

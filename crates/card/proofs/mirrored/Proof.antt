@@ -4,8 +4,8 @@ use Prim.Native.Nat.{ℕ, ◌+◌}
 use native.Mathlib.Omega.{arith}
 use lib.Count.{count_trailing_zeros}
 use Rattle.mesh.specs.Table.{linked}
-use Rattle.stations.proofs.Walk.{walk-small, walk_here, walk-less}
-use Rattle.card.proofs.TableTest.{Mirroring, mirroring-none, mirroring-more, mirrored-all, mirrored-one, linked-yes, linked-no}
+use Rattle.stations.proofs.Walk.{walk_small, walk_here, walk_less}
+use Rattle.card.proofs.TableTest.{Mirroring, mirroring_none, mirroring_more, mirrored_all, mirrored_one, linked_yes, linked_no}
 use Rattle.card.proofs.mirrored.Statement.{statement}
 use Rattle.card.proofs.mirrored.Tie as tie
 use Rattle.card.proofs.mirrored.Reads as reads
@@ -20,7 +20,7 @@ decreases-loop table i base w x₀ x = x
 
 -- src/lib.rt:113:5
 loop-holds : tie.Need-loop-init invariant-loop decreases-loop
-loop-holds c = mirroring-none _ _ _ _ c.before.ranges.w.fits
+loop-holds c = mirroring_none _ _ _ _ c.before.ranges.w.fits
 
 -- src/lib.rt:114:24
 low-bit-requires : tie.Need-low-bit-requires invariant-loop decreases-loop
@@ -47,7 +47,7 @@ shared-slice-read-if1 : tie.Need-shared-slice-read-if1 invariant-loop decreases-
 shared-slice-read-if1 c =
     let l = c.before.before.before.loop.invariant in
     let z = c.before.before.loop-test.true in
-    omega (arith, c.before.low_bit.ensures.0, c.before.before.before.before.before.requires.2 _ (walk-small l.walk z) (walk_here l.walk z))
+    omega (arith, c.before.low_bit.ensures.0, c.before.before.before.before.before.requires.2 _ (walk_small l.walk z) (walk_here l.walk z))
 
 -- src/lib.rt:115:12
 shr-if1 : tie.Need-overflow-shr-if1 invariant-loop decreases-loop
@@ -59,8 +59,8 @@ returns c =
     let l = c.before.before.before.before.loop.invariant in
     let z = c.before.before.before.loop-test.true in
     let s = c.before.before.before.before.before.before in
-    mirrored-one _ (walk-small l.walk z) (walk_here l.walk z)
-    (rw (← c.before.before.low_bit.ensures.0) (linked-no s.args.table.now (s.args.base + c.before.before.low_bit.result) s.args.i s.requires.0 c.if1.true))
+    mirrored_one _ (walk_small l.walk z) (walk_here l.walk z)
+    (rw (← c.before.before.low_bit.ensures.0) (linked_no s.args.table.now (s.args.base + c.before.before.low_bit.result) s.args.i s.requires.0 c.if1.true))
 
 -- src/lib.rt:118:18
 sub-x : tie.Need-overflow-sub-x invariant-loop decreases-loop
@@ -68,7 +68,7 @@ sub-x c = search rules
 
 -- src/lib.rt:113:5
 loop-less : tie.Need-loop-smaller invariant-loop decreases-loop
-loop-less c = walk-less c.before.before.before.before.loop.invariant.walk c.before.before.before.loop-test.true
+loop-less c = walk_less c.before.before.before.before.loop.invariant.walk c.before.before.before.loop-test.true
 
 -- src/lib.rt:113:5
 loop-again : tie.Need-loop-preserved invariant-loop decreases-loop
@@ -76,12 +76,12 @@ loop-again c =
     let l = c.before.before.before.before.loop.invariant in
     let z = c.before.before.before.loop-test.true in
     let s = c.before.before.before.before.before.before in
-    mirroring-more l z
-    (rw (← c.before.before.low_bit.ensures.0) (linked-yes s.args.table.now (s.args.base + c.before.before.low_bit.result) s.args.i s.requires.0 c.if1.false))
+    mirroring_more l z
+    (rw (← c.before.before.low_bit.ensures.0) (linked_yes s.args.table.now (s.args.base + c.before.before.low_bit.result) s.args.i s.requires.0 c.if1.false))
 
 -- src/lib.rt:108:1
 returns-2 : tie.Need-returns-2 invariant-loop decreases-loop
-returns-2 c = mirrored-all c.before.loop.invariant c.loop-test.false
+returns-2 c = mirrored_all c.before.loop.invariant c.loop-test.false
 
 pub mirrored-spec : {M : Type 1} → statement M
 mirrored-spec =

@@ -1,10 +1,10 @@
 use borrow.Author.Rules.{rules}
-use borrow.Author.Tests.{not-true, not-false}
+use borrow.Author.Tests.{not_true, not-false}
 use mathlib.Core.Path.{refl}
 use Prim.Native.Nat.{◌+◌}
 use Rattle.stations.specs.Words.{words}
 use Rattle.stations.proofs.Laws.{of_word}
-use Rattle.card.proofs.TableTest.{mirrored-not, mirrored-four}
+use Rattle.card.proofs.TableTest.{mirrored_not, mirrored_four}
 use Rattle.card.proofs.mirrored_row.Statement.{statement}
 use Rattle.card.proofs.mirrored_row.Tie as tie
 use Rattle.card.proofs.mirrored_row.Reads as reads
@@ -17,7 +17,7 @@ mirrored-requires c κs = let s = c.before in (s.requires.0, search rules, λ j 
 
 -- src/lib.rt:129:9
 returns : tie.Need-returns
-returns c = mirrored-not c.before.mirrored.ensures (not-true _ c.if1.true) (words c.before.before.before.args.row) 0 refl refl
+returns c = mirrored_not c.before.mirrored.ensures (not_true _ c.if1.true) (words c.before.before.before.args.row) 0 refl refl
 
 -- src/lib.rt:131:9
 mirrored-requires-2 : tie.Need-mirrored-requires-2
@@ -25,7 +25,7 @@ mirrored-requires-2 c κs = let s = c.before.before.before in (s.requires.0, sea
 
 -- src/lib.rt:132:9
 returns-2 : tie.Need-returns-2
-returns-2 c = mirrored-not c.before.mirrored2.ensures (not-true _ c.if2.true) (words c.before.before.before.before.before.args.row) 1 refl refl
+returns-2 c = mirrored_not c.before.mirrored2.ensures (not_true _ c.if2.true) (words c.before.before.before.before.before.args.row) 1 refl refl
 
 -- src/lib.rt:134:9
 mirrored-requires-3 : tie.Need-mirrored-requires-3
@@ -33,7 +33,7 @@ mirrored-requires-3 c κs = let s = c.before.before.before.before.before in (s.r
 
 -- src/lib.rt:135:9
 returns-3 : tie.Need-returns-3
-returns-3 c = mirrored-not c.before.mirrored3.ensures (not-true _ c.if3.true) (words c.before.before.before.before.before.before.before.args.row) 2 refl refl
+returns-3 c = mirrored_not c.before.mirrored3.ensures (not_true _ c.if3.true) (words c.before.before.before.before.before.before.before.args.row) 2 refl refl
 
 -- src/lib.rt:137:5
 mirrored-requires-4 : tie.Need-mirrored-requires-4
@@ -41,7 +41,7 @@ mirrored-requires-4 c κs = let s = c.before.before.before.before.before.before.
 
 -- src/lib.rt:124:1
 returns-4 : tie.Need-returns-4
-returns-4 c = mirrored-four c.before.before.before.before.before.before.mirrored.ensures (not-false _ c.before.before.before.before.before.if1.false) c.before.before.before.before.mirrored2.ensures (not-false _ c.before.before.before.if2.false) c.before.before.mirrored3.ensures (not-false _ c.before.if3.false) c.mirrored4.ensures
+returns-4 c = mirrored_four c.before.before.before.before.before.before.mirrored.ensures (not-false _ c.before.before.before.before.before.if1.false) c.before.before.before.before.mirrored2.ensures (not-false _ c.before.before.before.if2.false) c.before.before.mirrored3.ensures (not-false _ c.before.if3.false) c.mirrored4.ensures
 
 pub mirrored-row-spec : {M : Type 1} → statement M
 mirrored-row-spec =

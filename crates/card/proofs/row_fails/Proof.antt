@@ -1,4 +1,4 @@
-use borrow.Author.Tests.{not-true, not-false}
+use borrow.Author.Tests.{not_true, not-false}
 use mathlib.Core.Bool.{Bool, true, false, not, ◌&&◌}
 use mathlib.Core.List.{List}
 use mathlib.Core.Path.{◌≡◌, sym, ap, ap₂, ◌∙◌, subst}
@@ -9,7 +9,7 @@ use Rattle.stations.specs.Sets.{Set}
 use Rattle.stations.specs.Words.{has, words, members, row}
 use Rattle.mesh.specs.Table.{linked, Fits}
 use Rattle.card.specs.Tests.{MirroredRow}
-use Rattle.card.proofs.TableTest.{row-self, row-high, row_told, row_fits}
+use Rattle.card.proofs.TableTest.{row_self, row_high, row_told, row_fits}
 use borrow.Author.Rules.{rules}
 use Rattle.card.proofs.row_fails.Statement.{statement}
 use Rattle.card.proofs.row_fails.Tie as tie
@@ -57,7 +57,7 @@ module _ (c : tie.After-is-empty) where
 returns : tie.Need-returns
 returns c =
     let s = c.before.before.before.before.args in
-    row-self s.n s.table.now s.i
+    row_self s.n s.table.now s.i
     (ap (λ (w : List ℕ). has w s.i) (sym c.before.before.of_row.ensures) ∙ sym c.before.has.ensures ∙ c.if1.true)
 
 -- src/lib.rt:149:19
@@ -76,7 +76,7 @@ is-empty-requires c κs = search rules
 returns-2 : tie.Need-returns-2
 returns-2 c =
     let e = c.before in
-    row-high (n e) (t e) (i e) (λ z. e.is-empty.ensures.somebody (not-true _ c.if2.true) (λ x. high e x ∙ z x))
+    row_high (n e) (t e) (i e) (λ z. e.is-empty.ensures.somebody (not_true _ c.if2.true) (λ x. high e x ∙ z x))
 
 -- src/lib.rt:152:6
 mirrored-row-requires : tie.Need-mirrored-row-requires

@@ -1,5 +1,5 @@
 use native.Mathlib.Omega.{arith}
-use Rattle.card.proofs.Card.{no_rows, some-rows}
+use Rattle.card.proofs.Card.{no_rows, some_rows}
 use borrow.Author.Rules.{rules}
 use Rattle.card.proofs.rows.Statement.{statement}
 use Rattle.card.proofs.rows.Tie as tie
@@ -20,7 +20,7 @@ add-result c = search rules
 
 -- src/lib.rt:92:1
 returns-2 : tie.Need-returns-2
-returns-2 c = some-rows c.before.args.n c.before.args.k (omega (arith, c.if1.false))
+returns-2 c = some_rows c.before.args.n c.before.args.k (omega (arith, c.if1.false))
 
 pub rows-spec : {M : Type 1} → statement M
 rows-spec = tie.close (tie.spec returns sub-over add-result returns-2)

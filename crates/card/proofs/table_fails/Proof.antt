@@ -6,7 +6,7 @@ use Prim.Native.Nat.{ℕ, ◌<◌, ◌≤◌, ◌-◌}
 use native.Mathlib.Omega.{arith}
 use Rattle.stations.proofs.Bools.{never}
 use Rattle.card.specs.Tests.{RowFault}
-use Rattle.card.proofs.TableTest.{fault-of, no-fault}
+use Rattle.card.proofs.TableTest.{fault_of, no_fault}
 use Rattle.card.proofs.table_fails.Statement.{statement}
 use Rattle.card.proofs.table_fails.Tie as tie
 use Rattle.card.proofs.table_fails.Reads as reads
@@ -29,7 +29,7 @@ row-fails-requires c κs = search rules
 
 -- src/lib.rt:162:13
 returns : tie.Need-returns invariant-loop decreases-loop
-returns c = record { yes-so = λ _. fault-of _ _ _ c.before.before.loop-test.true (c.before.row-fails.ensures.yes-so c.if1.true); not_so = λ e. never true refl e }
+returns c = record { yes_so = λ _. fault_of _ _ _ c.before.before.loop-test.true (c.before.row-fails.ensures.yes_so c.if1.true); not_so = λ e. never true refl e }
 
 -- src/lib.rt:160:9
 add-i : tie.Need-overflow-add-i invariant-loop decreases-loop
@@ -45,7 +45,7 @@ loop-again c = (search rules, below_more _ _ c.before.before.before.loop.invaria
 
 -- src/lib.rt:156:1
 returns-2 : tie.Need-returns-2 invariant-loop decreases-loop
-returns-2 c = record { yes-so = λ e. never false e refl; not_so = λ _. no-fault _ _ (λ a l. c.before.loop.invariant.1 a (omega (arith, c.loop-test.false))) }
+returns-2 c = record { yes_so = λ e. never false e refl; not_so = λ _. no_fault _ _ (λ a l. c.before.loop.invariant.1 a (omega (arith, c.loop-test.false))) }
 
 pub table-fails-spec : {M : Type 1} → statement M
 table-fails-spec =

@@ -26,7 +26,7 @@ table-fails-requires c κs = search rules
 
 -- src/lib.rt:179:9
 returns-3 : tie.Need-returns-3
-returns-3 c = inr (λ l. omega (arith, c.before.before.before.if1.false), inr (λ o. o c.before.before.if2.false, inl (c.before.table-fails.ensures.yes-so c.if3.true, refl)))
+returns-3 c = inr (λ l. omega (arith, c.before.before.before.if1.false), inr (λ o. o c.before.before.if2.false, inl (c.before.table-fails.ensures.yes_so c.if3.true, refl)))
 
 -- src/lib.rt:169:1
 returns-4 : tie.Need-returns-4

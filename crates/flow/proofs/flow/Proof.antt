@@ -5,9 +5,9 @@ use lib.ListN.{length}
 use borrow.Author.Rules.{rules}
 use Rattle.stations.specs.Sets.{◌cut◌, size}
 use Rattle.stations.specs.Words.{members}
-use Rattle.flow.specs.Net.{netOf}
+use Rattle.flow.specs.Net.{net_of}
 use Rattle.flow.specs.Search.{Held, Came, Told}
-use Rattle.flow.proofs.Outcome.{first-many, held_first, held_small, held_start, held_more, held-solved, held-many}
+use Rattle.flow.proofs.Outcome.{first_many, held_first, held_small, held_start, held_more, held_solved, held_many}
 use Rattle.flow.proofs.flow.Statement.{statement}
 use Rattle.flow.proofs.flow.Tie as tie
 use Rattle.flow.proofs.flow.Reads as reads
@@ -30,12 +30,12 @@ came : (c : tie.After-known-told invariant-loop decreases-loop)
     → let r = c.before.before.before in
     let l = r.before.before.before.before in
     let a = l.before.before.before.before.before.before.before.before.args in
-    Came (netOf a.table.now a.inner a.starts a.ends) a.starts (members l.loop.first) l.loop.hold r.search.new.1.1.1.1.1.1.0 c.before.s.given.0.0
+    Came (net_of a.table.now a.inner a.starts a.ends) a.starts (members l.loop.first) l.loop.hold r.search.new.1.1.1.1.1.1.0 c.before.s.given.0.0
 came c =
     let r = c.before.before.before in
     let l = r.before.before.before.before in
     let a = l.before.before.before.before.before.before.before.before.args in
-    subst (Told (netOf a.table.now a.inner a.starts a.ends) a.starts (members l.loop.first) l.loop.hold r.search.new.1.1.1.1.1.1.0) c.before.s.given.1 r.search.ensures.told
+    subst (Told (net_of a.table.now a.inner a.starts a.ends) a.starts (members l.loop.first) l.loop.hold r.search.new.1.1.1.1.1.1.0) c.before.s.given.1 r.search.ensures.told
 
 idle-requires : tie.Need-idle-requires invariant-loop decreases-loop
 idle-requires c κs = search rules
@@ -52,7 +52,7 @@ size-requires c κs = search rules
 returns : tie.Need-returns invariant-loop decreases-loop
 returns c =
     let a = c.before.before.before.before.before.args in
-    first-many a.table.now a.inner a.starts a.ends c.before.before.cut2.result (λ w. simp (c.before.before.cut2.ensures, c.before.before.before.cut.ensures)) (rw c.before.size.ensures at c.if1.true)
+    first_many a.table.now a.inner a.starts a.ends c.before.before.cut2.result (λ w. simp (c.before.before.cut2.ensures, c.before.before.before.cut.ensures)) (rw c.before.size.ensures at c.if1.true)
 
 loop-holds : tie.Need-loop-init invariant-loop decreases-loop
 loop-holds c = (search rules, let z = c.before.before.before in let a = z.before.before.before.before.args in rw z.size.ensures (held_first a.table.now a.inner a.starts a.ends z.before.cut2.result (λ w. simp (z.before.cut2.ensures, z.before.before.cut.ensures)) c.idle.ensures))
@@ -86,11 +86,11 @@ returns-2 c =
     let r = c.before.before.before in
     let l = r.before.before.before.before in
     let a = l.before.before.before.before.before.before.before.before.args in
-    held-solved l.loop.invariant.1 r.before.before.before.loop-test.true
-    (subst (Told (netOf a.table.now a.inner a.starts a.ends) a.starts (members l.loop.first) l.loop.hold r.search.new.1.1.1.1.1.1.0) c.before.s2.given.1 r.search.ensures.told)
+    held_solved l.loop.invariant.1 r.before.before.before.loop-test.true
+    (subst (Told (net_of a.table.now a.inner a.starts a.ends) a.starts (members l.loop.first) l.loop.hold r.search.new.1.1.1.1.1.1.0) c.before.s2.given.1 r.search.ensures.told)
 
 returns-3 : tie.Need-returns-3 invariant-loop decreases-loop
-returns-3 c = held-many c.before.loop.invariant.1 c.loop-test.false
+returns-3 c = held_many c.before.loop.invariant.1 c.loop-test.false
 
 pub flow-spec : {M : Type 1} → statement M
 flow-spec =

@@ -3,7 +3,7 @@ use lib.ListN.{length}
 use Rattle.card.specs.Card.{FirstFailing, verdict}
 use Rattle.card.specs.declared.Tested.{Tested}
 use Rattle.groups.specs.Reply.{order}
-use Rattle.groups.proofs.Laws.{ordered, passed, replied, refused-reply}
+use Rattle.groups.proofs.Laws.{ordered, passed, replied, refused_reply}
 use borrow.Author.Rules.{rules}
 use Rattle.groups.proofs.groups.Statement.{statement}
 use Rattle.groups.proofs.groups.Tie as tie
@@ -72,7 +72,7 @@ returns-2 : tie.Need-returns-2
 returns-2 c =
     let e = c.before.before.before in
     let s = e.before.before.before.before.before.before.before.args in
-    refused-reply s.n s.table.now s.k s.list.now c.before.tested.given.0.0
+    refused_reply s.n s.table.now s.k s.list.now c.before.tested.given.0.0
     (subst (λ (v : Tested). FirstFailing (order s.n s.table.now s.k (length s.list.now)) (verdict v)) c.before.tested.given.1 (first e))
 
 pub groups-spec : {M : Type 1} → statement M

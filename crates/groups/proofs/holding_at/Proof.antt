@@ -1,5 +1,5 @@
 use native.Mathlib.Omega.{arith}
-use Rattle.groups.proofs.Laws.{row_inside, row-outside}
+use Rattle.groups.proofs.Laws.{row_inside, row_outside}
 use borrow.Author.Rules.{rules}
 use Rattle.groups.proofs.holding_at.Statement.{statement}
 use Rattle.groups.proofs.holding_at.Tie as tie
@@ -19,7 +19,7 @@ holding-requires c κs = search rules
 returns : tie.Need-returns
 returns c =
     let s = c.before.before.before.before.before.args in
-    row-outside s.n s.table.now s.k s.list.now s.i c.holding.result (omega (arith, c.before.before.if1.true)) c.holding.ensures
+    row_outside s.n s.table.now s.k s.list.now s.i c.holding.result (omega (arith, c.before.before.if1.true)) c.holding.ensures
 
 -- src/lib.rt:77:14
 mul_at : tie.Need-overflow-mul-at

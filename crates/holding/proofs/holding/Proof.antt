@@ -2,7 +2,7 @@ use mathlib.Core.Path.{ap, subst}
 use Rattle.card.specs.Card.{FirstFailing, verdict}
 use Rattle.card.specs.declared.Tested.{Tested}
 use Rattle.holding.specs.Reply.{order}
-use Rattle.holding.proofs.Laws.{ordered, passed, replied, refused-reply}
+use Rattle.holding.proofs.Laws.{ordered, passed, replied, refused_reply}
 use borrow.Author.Rules.{rules}
 use Rattle.holding.proofs.holding.Statement.{statement}
 use Rattle.holding.proofs.holding.Tie as tie
@@ -68,7 +68,7 @@ returns-2 : tie.Need-returns-2
 returns-2 c =
     let e = c.before.before.before in
     let s = e.before.before.before.before.before.before.before.args in
-    refused-reply s.n s.table.now s.k s.set.now c.before.tested.given.0.0
+    refused_reply s.n s.table.now s.k s.set.now c.before.tested.given.0.0
     (subst (λ (v : Tested). FirstFailing (order s.n s.table.now s.k s.set.now) (verdict v)) c.before.tested.given.1 (first e))
 
 pub holding-spec : {M : Type 1} → statement M

@@ -4,7 +4,7 @@ use Rattle.stations.specs.Words.{members}
 use Rattle.mesh.specs.Table.{linked}
 use Rattle.verdicts.specs.Verdicts.{JudgedOf}
 use Rattle.verdicts.specs.declared.Judged.{Judged}
-use Rattle.holding.proofs.Laws.{piece, judged-holds, judged-few, judged-weak}
+use Rattle.holding.proofs.Laws.{piece, judged_holds, judged_few, judged_weak}
 use borrow.Author.Rules.{rules}
 use Rattle.holding.proofs.judge.Statement.{statement}
 use Rattle.holding.proofs.judge.Tie as tie
@@ -44,21 +44,21 @@ returns : tie.Need-returns
 returns c =
     let m = c.before.before in
     let s = m.before.before.before.before in
-    record { given = refl; right = judged-holds s.args.n s.args.table.now s.args.k s.args.set.now s.requires m.before.of_row.result m.before.of_row.ensures (subst (told m) c.enum_told.given.1 m.judge.ensures) }
+    record { given = refl; right = judged_holds s.args.n s.args.table.now s.args.k s.args.set.now s.requires m.before.of_row.result m.before.of_row.ensures (subst (told m) c.enum_told.given.1 m.judge.ensures) }
 
 -- src/lib.rt:124:1
 returns-2 : tie.Need-returns-2
 returns-2 c =
     let m = c.before.before in
     let s = m.before.before.before.before in
-    record { given = refl; right = judged-few s.args.n s.args.table.now s.args.k s.args.set.now s.requires m.before.of_row.result m.before.of_row.ensures (subst (told m) c.enum-told2.given.1 m.judge.ensures) }
+    record { given = refl; right = judged_few s.args.n s.args.table.now s.args.k s.args.set.now s.requires m.before.of_row.result m.before.of_row.ensures (subst (told m) c.enum-told2.given.1 m.judge.ensures) }
 
 -- src/lib.rt:124:1
 returns-3 : tie.Need-returns-3
 returns-3 c =
     let m = c.before.before in
     let s = m.before.before.before.before in
-    record { given = refl; right = judged-weak s.args.n s.args.table.now s.args.k s.args.set.now s.requires m.before.of_row.result m.before.of_row.ensures (members c.enum-told3.given.0.0) (subst (told m) c.enum-told3.given.1 m.judge.ensures) }
+    record { given = refl; right = judged_weak s.args.n s.args.table.now s.args.k s.args.set.now s.requires m.before.of_row.result m.before.of_row.ensures (members c.enum-told3.given.0.0) (subst (told m) c.enum-told3.given.1 m.judge.ensures) }
 
 pub judge-spec : {M : Type 1} → statement M
 judge-spec =

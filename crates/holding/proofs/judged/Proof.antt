@@ -2,7 +2,7 @@ use mathlib.Core.Path.{ap, subst}
 use Rattle.card.specs.Card.{FirstFailing, verdict}
 use Rattle.card.specs.declared.Tested.{Tested}
 use Rattle.holding.specs.Reply.{order}
-use Rattle.holding.proofs.Laws.{ordered, passed, judged-reply, judged-refused}
+use Rattle.holding.proofs.Laws.{ordered, passed, judged_reply, judged_refused}
 use borrow.Author.Rules.{rules}
 use Rattle.holding.proofs.judged.Statement.{statement}
 use Rattle.holding.proofs.judged.Tie as tie
@@ -61,14 +61,14 @@ returns : tie.Need-returns
 returns c =
     let e = c.before.before.before in
     let s = e.before.before.before.before.before.before.before.args in
-    judged-reply s.n s.table.now s.k s.set.now c.judge.result (verdict e.then2.result) (first e) (ap verdict c.before.enum_told.given.1) c.judge.ensures
+    judged_reply s.n s.table.now s.k s.set.now c.judge.result (verdict e.then2.result) (first e) (ap verdict c.before.enum_told.given.1) c.judge.ensures
 
 -- src/lib.rt:137:1
 returns-2 : tie.Need-returns-2
 returns-2 c =
     let e = c.before.before.before in
     let s = e.before.before.before.before.before.before.before.args in
-    judged-refused s.n s.table.now s.k s.set.now c.before.all.given.0.0
+    judged_refused s.n s.table.now s.k s.set.now c.before.all.given.0.0
     (subst (λ (v : Tested). FirstFailing (order s.n s.table.now s.k s.set.now) (verdict v)) c.before.all.given.1 (first e))
 
 pub judged-spec : {M : Type 1} → statement M

@@ -1,6 +1,6 @@
 use native.Mathlib.Omega.{arith}
 use Rattle.lines.proofs.Adding.{added_then}
-use Rattle.lines.proofs.Decimal.{decimal-length}
+use Rattle.lines.proofs.Decimal.{decimal_length}
 use borrow.Author.Rules.{rules}
 use Rattle.lines.proofs.put_group.Statement.{statement}
 use Rattle.lines.proofs.put_group.Tie as tie
@@ -24,7 +24,7 @@ put-labelled-requires : tie.Need-put-labelled-requires
 put-labelled-requires c κs =
     let N = c.before.before.before.before in
     let s = N.before.before.before.before in
-    omega (arith, N.put-number.ensures.next, N.put-number.ensures.long, decimal-length 19 s.args.k 1 s.requires.0, s.requires.3)
+    omega (arith, N.put-number.ensures.next, N.put-number.ensures.long, decimal_length 19 s.args.k 1 s.requires.0, s.requires.3)
 
 -- src/lib.rt:78:9
 put-serials-requires : tie.Need-put-serials-requires
@@ -32,7 +32,7 @@ put-serials-requires c κs =
     let L = c.before.before.before in
     let N = L.before.before.before.before.before in
     let s = N.before.before.before.before in
-    (s.requires.2, omega (arith, N.put-number.ensures.next, N.put-number.ensures.long, decimal-length 19 s.args.k 1 s.requires.0, s.requires.3, L.put-labelled.ensures.0.next, L.put-labelled.ensures.0.long, decimal-length 19 s.args.place 2 s.requires.1))
+    (s.requires.2, omega (arith, N.put-number.ensures.next, N.put-number.ensures.long, decimal_length 19 s.args.k 1 s.requires.0, s.requires.3, L.put-labelled.ensures.0.next, L.put-labelled.ensures.0.long, decimal_length 19 s.args.place 2 s.requires.1))
 
 -- src/lib.rt:79:23
 slice-aggregate-put-text : tie.Need-slice-aggregate-put-text
@@ -45,7 +45,7 @@ put-text-requires c κs =
     let L = S.before.before.before.before in
     let N = L.before.before.before.before.before in
     let s = N.before.before.before.before in
-    omega (arith, N.put-number.ensures.next, N.put-number.ensures.long, decimal-length 19 s.args.k 1 s.requires.0, s.requires.3, L.put-labelled.ensures.0.next, L.put-labelled.ensures.0.long, decimal-length 19 s.args.place 2 s.requires.1, S.put-serials.ensures.1, S.put-serials.ensures.0.long)
+    omega (arith, N.put-number.ensures.next, N.put-number.ensures.long, decimal_length 19 s.args.k 1 s.requires.0, s.requires.3, L.put-labelled.ensures.0.next, L.put-labelled.ensures.0.long, decimal_length 19 s.args.place 2 s.requires.1, S.put-serials.ensures.1, S.put-serials.ensures.0.long)
 
 -- src/lib.rt:65:1
 same_length : tie.Need-same-length
@@ -60,7 +60,7 @@ returns c =
     let N = L.before.before.before.before.before in
     let s = N.before.before.before.before in
     let three = added_then _ _ _ _ _ _ _ _ (added_then _ _ _ _ _ _ _ _ N.put-number.ensures L.put-labelled.ensures.0) S.put-serials.ensures.0 in
-    (added_then _ _ _ _ _ _ _ _ three T.put-text.ensures, omega (arith, T.put-text.ensures.next, N.put-number.ensures.next, N.put-number.ensures.long, decimal-length 19 s.args.k 1 s.requires.0, s.requires.3, L.put-labelled.ensures.0.next, L.put-labelled.ensures.0.long, decimal-length 19 s.args.place 2 s.requires.1, S.put-serials.ensures.1, S.put-serials.ensures.0.long))
+    (added_then _ _ _ _ _ _ _ _ three T.put-text.ensures, omega (arith, T.put-text.ensures.next, N.put-number.ensures.next, N.put-number.ensures.long, decimal_length 19 s.args.k 1 s.requires.0, s.requires.3, L.put-labelled.ensures.0.next, L.put-labelled.ensures.0.long, decimal_length 19 s.args.place 2 s.requires.1, S.put-serials.ensures.1, S.put-serials.ensures.0.long))
 
 pub put-group-spec : {M : Type 1} → statement M
 put-group-spec =

@@ -1,6 +1,6 @@
 use native.Mathlib.Omega.{arith}
 use Rattle.lines.proofs.Adding.{added_then}
-use Rattle.lines.proofs.Decimal.{decimal-most}
+use Rattle.lines.proofs.Decimal.{decimal_most}
 use borrow.Author.Rules.{rules}
 use Rattle.lines.proofs.put_labelled.Statement.{statement}
 use Rattle.lines.proofs.put_labelled.Tie as tie
@@ -27,7 +27,7 @@ returns c =
     let N = c.before.before in
     let T = N.before.before.before.before in
     let s = T.before.before.before.before in
-    (added_then _ _ _ _ _ _ _ _ T.put-text.ensures N.put-number.ensures, omega (arith, T.put-text.ensures.next, N.put-number.ensures.next, decimal-most 19 s.args.x))
+    (added_then _ _ _ _ _ _ _ _ T.put-text.ensures N.put-number.ensures, omega (arith, T.put-text.ensures.next, N.put-number.ensures.next, decimal_most 19 s.args.x))
 
 pub put-labelled-spec : {M : Type 1} → statement M
 put-labelled-spec = tie.close (tie.spec put-text-requires put-number-requires same_length returns)

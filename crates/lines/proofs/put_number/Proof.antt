@@ -3,7 +3,7 @@ use mathlib.Core.List.{List}
 use mathlib.Core.Path.{◌∙◌, subst}
 use Prim.Native.Nat.{ℕ}
 use Rattle.lines.specs.Lines.{Added}
-use Rattle.lines.proofs.Decimal.{decimal-is, few-digits}
+use Rattle.lines.proofs.Decimal.{decimal_is, few_digits}
 use lib.ListN.{length, take}
 use borrow.Author.Rules.{rules}
 use Rattle.lines.proofs.put_number.Statement.{statement}
@@ -30,7 +30,7 @@ put-text-requires : tie.Need-put-text-requires
 put-text-requires c κs =
     let D = c.before.before in
     let s = D.before.before.before in
-    omega (arith, D.decimal.ensures.0.1, few-digits s.args.x D.decimal.result s.ranges.x.fits D.decimal.ensures.1.0)
+    omega (arith, D.decimal.ensures.0.1, few_digits s.args.x D.decimal.result s.ranges.x.fits D.decimal.ensures.1.0)
 
 -- src/lib.rt:24:1
 same_length : tie.Need-same-length
@@ -42,7 +42,7 @@ returns c =
     let T = c.before.before in
     let D = T.before.before.before in
     let s = D.before.before.before in
-    subst (λ (w : List ℕ). Added s.args.at T.put-text.result w s.args.page.now T.put-text.new.0) (D.decimal.ensures.1.1 ∙ decimal-is s.args.x D.decimal.result (few-digits s.args.x D.decimal.result s.ranges.x.fits D.decimal.ensures.1.0) D.decimal.ensures.1.0) T.put-text.ensures
+    subst (λ (w : List ℕ). Added s.args.at T.put-text.result w s.args.page.now T.put-text.new.0) (D.decimal.ensures.1.1 ∙ decimal_is s.args.x D.decimal.result (few_digits s.args.x D.decimal.result s.ranges.x.fits D.decimal.ensures.1.0) D.decimal.ensures.1.0) T.put-text.ensures
 
 pub put-number-spec : {M : Type 1} → statement M
 put-number-spec =

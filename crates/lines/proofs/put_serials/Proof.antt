@@ -6,7 +6,7 @@ use borrow.Author.Rules.{rules}
 use Rattle.stations.specs.Sets.{size}
 use Rattle.stations.specs.Words.{members}
 use Rattle.stations.specs.Answers.{FirstOf, Least}
-use Rattle.lines.proofs.Serials.{Spelled, spelled_none, spelled-all, spelled-room, spelled-more, fewer}
+use Rattle.lines.proofs.Serials.{Spelled, spelled_none, spelled_all, spelled_room, spelled_more, fewer}
 use Rattle.lines.proofs.put_serials.Statement.{statement}
 use Rattle.lines.proofs.put_serials.Tie as tie
 
@@ -46,7 +46,7 @@ returns : tie.Need-returns invariant-loop decreases-loop
 returns c =
     let k = c.before in
     let s = start k in
-    spelled-all s.args.at s.args.serials.now (members s.args.row) s.args.page.now (at k).loop.place (at k).loop.page (members (at k).loop.rest) (at k).loop.invariant s.pre.0
+    spelled_all s.args.at s.args.serials.now (members s.args.row) s.args.page.now (at k).loop.place (at k).loop.page (members (at k).loop.rest) (at k).loop.invariant s.pre.0
     (λ x l. (least k).below x (omega (arith, c.if1.true)))
 
 put-station-requires : tie.Need-put-station-requires invariant-loop decreases-loop
@@ -54,7 +54,7 @@ put-station-requires c κs =
     let k = c.before.before in
     let s = start k in (
       c.before.if1.false,
-      spelled-room s.args.at s.args.serials.now (members s.args.row) s.args.page.now (at k).loop.place (at k).loop.page (members (at k).loop.rest) (at k).loop.invariant s.pre.0
+      spelled_room s.args.at s.args.serials.now (members s.args.row) s.args.page.now (at k).loop.place (at k).loop.page (members (at k).loop.rest) (at k).loop.invariant s.pre.0
           (j k) (least k) c.before.if1.false (omega (arith, s.pre.1, (at k).loop.invariant.added.long)),
     )
 
@@ -72,7 +72,7 @@ loop-again c =
     let E = P.before.before in
     let k = E.before in
     let s = start k in
-    spelled-more s.args.at s.args.serials.now (members s.args.row) s.args.page.now (at k).loop.place (at k).loop.page (members (at k).loop.rest) (at k).loop.invariant s.pre.0
+    spelled_more s.args.at s.args.serials.now (members s.args.row) s.args.page.now (at k).loop.place (at k).loop.page (members (at k).loop.rest) (at k).loop.invariant s.pre.0
     (j k) (least k) E.if1.false _ _ (members c.without.result) P.put-station.ensures.0 P.put-station.ensures.1 c.without.ensures
 
 enum_told : tie.Need-enum-told invariant-loop decreases-loop
@@ -85,7 +85,7 @@ returns-2 : tie.Need-returns-2 invariant-loop decreases-loop
 returns-2 c =
     let l = c.before.before.before in
     let s = l.before.before.before in
-    spelled-all s.args.at s.args.serials.now (members s.args.row) s.args.page.now l.loop.place l.loop.page (members l.loop.rest) l.loop.invariant s.requires.0
+    spelled_all s.args.at s.args.serials.now (members s.args.row) s.args.page.now l.loop.place l.loop.page (members l.loop.rest) l.loop.invariant s.requires.0
     (λ x g. subst (FirstOf (members l.loop.rest)) c.enum_told.given.1 c.before.before.first.ensures x)
 
 pub put-serials-spec : {M : Type 1} → statement M

@@ -1,6 +1,6 @@
 -- `lines::put_station` meets its contract.
 use borrow.Author.Rules.{rules}
-use Rattle.lines.proofs.Serials.{one-serial}
+use Rattle.lines.proofs.Serials.{one_serial}
 use Rattle.lines.proofs.put_station.Statement.{statement}
 use Rattle.lines.proofs.put_station.Tie as tie
 
@@ -27,7 +27,7 @@ returns c =
     let P = c.before.before in
     let W = P.before.before.before in
     let s = W.before.before.before.before in
-    one-serial s.args.at _ W.wide-serial.result _ _ _ W.wide-serial.ensures.0 W.wide-serial.ensures.1 P.put-labelled.ensures.0
+    one_serial s.args.at _ W.wide-serial.result _ _ _ W.wide-serial.ensures.0 W.wide-serial.ensures.1 P.put-labelled.ensures.0
 
 pub put-station-spec : {M : Type 1} → statement M
 put-station-spec =

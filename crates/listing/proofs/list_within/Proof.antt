@@ -5,13 +5,13 @@ use native.Mathlib.Omega.{arith}
 use borrow.Author.Rules.{rules}
 use Rattle.stations.specs.Sets.{Set, size}
 use Rattle.stations.specs.Words.{members}
-use Rattle.stations.proofs.Counting.{size-le}
+use Rattle.stations.proofs.Counting.{size_le}
 use Rattle.mesh.proofs.Bound.{weight}
 use Rattle.listing.specs.List.{Asked}
 use Rattle.listing.specs.Rows.{Kept, Stored}
 use Rattle.listing.specs.Steps.{State}
-use Rattle.listing.proofs.Lists.{put-set}
-use Rattle.listing.proofs.Ending.{nothing, first-room, begun, clear_room, sort-room, ended}
+use Rattle.listing.proofs.Lists.{put_set}
+use Rattle.listing.proofs.Ending.{nothing, first_room, begun, clear_room, sort_room, ended}
 use Rattle.listing.proofs.list_within.Statement.{statement}
 use Rattle.listing.proofs.list_within.Tie as tie
 
@@ -33,7 +33,7 @@ module _ (c : tie.Else1) where
   most = omega (arith, large, c.before.size.ensures)
 
 stored : (c : tie.After-put-row) → Stored (start c.before.before).args.list.now 0 (D c.before.before) c.put-row.new.1.0
-stored c = put-set (start c.before.before).args.set refl (first-room (asked c.before.before) (large c.before.before)) c.put-row.ensures
+stored c = put_set (start c.before.before).args.set refl (first_room (asked c.before.before) (large c.before.before)) c.put-row.ensures
 
 gathered : (c : tie.After-gather) → let e = c.before.before.before.before.before.before in let a = (start e).args in let w = weight a.k (size 256 (D e)) in
     State a.table.now a.k w (D e) c.gather.new.1.1.0 c.gather.result c.gather.result × Kept w c.before.before.before.before.put-row.new.1.0 c.gather.new.1.1.0
@@ -49,10 +49,10 @@ sub-most : tie.Need-overflow-sub-most
 sub-most c = search rules
 
 add_most : tie.Need-overflow-add-most
-add_most c = search (rules, size-le 256 (members (start c).args.set), c.before.size.ensures)
+add_most c = search (rules, size_le 256 (members (start c).args.set), c.before.size.ensures)
 
 put-row-requires : tie.Need-put-row-requires
-put-row-requires c κs = first-room (asked c.before) (large c.before)
+put-row-requires c κs = first_room (asked c.before) (large c.before)
 
 gather-requires : tie.Need-gather-requires
 gather-requires c κs = (_, _, begun (asked c.before.before.before.before.before) (large c.before.before.before.before.before) (stored c.before.before.before))
@@ -67,7 +67,7 @@ sort-requires : tie.Need-sort-requires
 sort-requires c κs =
     let q = c.before.before.before.before.before.before.before in
     let e = q.before.before.before.before.before.before in
-    sort-room (asked e) (large e) (stored q.before.before.before.before) (gathered q).0 (gathered q).1 (most e) c.before.before.before.clear.ensures
+    sort_room (asked e) (large e) (stored q.before.before.before.before) (gathered q).0 (gathered q).1 (most e) c.before.before.before.clear.ensures
 
 same_length : tie.Need-same-length
 same_length c = search rules

@@ -53,25 +53,25 @@ every (suc n) zero s f = every n zero s f
 every (suc n) (suc m) s f = let r = every n m s (λ p. f (p joined only n)) in let q = guard (s n) r in every n (suc m) s f && q
 
 -- f passes each part of s below n that has fewer than k stations
-unfoldable pub everyPart : ℕ → ℕ → Set → (Set → Bool) → Bool
-everyPart n zero s f = true
-everyPart n (suc m) s f = every n m s f
+unfoldable pub every_part : ℕ → ℕ → Set → (Set → Bool) → Bool
+every_part n zero s f = true
+every_part n (suc m) s f = every n m s f
 
 unfoldable pub holdsb : Links → ℕ → ℕ → Set → Bool
-holdsb L n k s = let r = everyPart n k s (λ p. wholeb L n (s without p)) in ltb k (size n s) && r
+holdsb L n k s = let r = every_part n k s (λ p. wholeb L n (s without p)) in ltb k (size n s) && r
 
 -- each station of p below n is one of s
 unfoldable pub subb : ℕ → Set → Set → Bool
 subb n p s = each n (λ x. guard (p x) (s x))
 
 -- p is q or comes before it: each station that only q has comes after one that only p has
-unfoldable pub notAfter : ℕ → Set → Set → Bool
-notAfter n p q = each n (λ x. guard (q x && not (p x)) (any x (λ y. p y && not (q y))))
+unfoldable pub not_afterb : ℕ → Set → Set → Bool
+not_afterb n p q = each n (λ x. guard (q x && not (p x)) (any x (λ y. p y && not (q y))))
 
 -- p is the weak set of s at k
-unfoldable pub weakSetb : Links → ℕ → ℕ → Set → Set → Bool
-weakSetb L n k s p = subb n p s && ltb (size n p) k && not (wholeb L n (s without p)) &&
-    every n (size n p) s (λ q. wholeb L n (s without q) || (eqb (size n q) (size n p) && notAfter n p q))
+unfoldable pub weak_setb : Links → ℕ → ℕ → Set → Set → Bool
+weak_setb L n k s p = subb n p s && ltb (size n p) k && not (wholeb L n (s without p)) &&
+    every n (size n p) s (λ q. wholeb L n (s without q) || (eqb (size n q) (size n p) && not_afterb n p q))
 
 -- the rows R 0, .., R (g - 1) are the groups at k
 unfoldable pub groupsb : Links → ℕ → ℕ → ℕ → (ℕ → Set) → Bool

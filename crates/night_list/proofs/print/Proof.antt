@@ -26,7 +26,7 @@ slice-reshare-prefix-write-all c = search rules
 slice-aggregate-write-all : tie.Need-slice-aggregate-write-all
 slice-aggregate-write-all c =
     let N = c.before.before.before.before in
-    sym (length-take-le c.before.page-length.result N.night-list.new.1.0 (omega (arith, N.night-list.ensures.inside, c.before.page-length.ensures)))
+    sym (length-take-le c.before.page_length.result N.night-list.new.1.0 (omega (arith, N.night-list.ensures.inside, c.before.page_length.ensures)))
 
 -- src/main.rt:9:5
 write-all-requires : tie.Need-write-all-requires

@@ -1,5 +1,5 @@
 use native.Mathlib.Omega.{arith}
-use Rattle.page.proofs.Reading.{too_short, page-printed}
+use Rattle.page.proofs.Reading.{too_short, page_printed}
 use borrow.Author.Rules.{rules}
 use Rattle.page.proofs.night_list.Statement.{statement}
 use Rattle.page.proofs.night_list.Tie as tie
@@ -23,7 +23,7 @@ same_length c = search rules
 returns-2 : tie.Need-returns-2
 returns-2 c =
     let P = c.before.before in
-    page-printed _ _ _ _ (omega (arith, P.before.before.if1.false)) P.print.ensures
+    page_printed _ _ _ _ (omega (arith, P.before.before.if1.false)) P.print.ensures
 
 pub night-list-spec : {M : Type 1} → statement M
 night-list-spec = tie.close (tie.spec returns print-requires same_length returns-2)

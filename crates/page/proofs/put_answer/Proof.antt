@@ -28,7 +28,7 @@ slice-aggregate-put-survey c =
     let R = c.before.before.before in
     let s = R.before.before.before.before.before.before in
     let g = R.read.given in
-    law.words-all s.args.read s.args.table.now s.args.serials.now s.args.list.now (length s.args.page.now) s.requires g.0.0 g.0.1.0 g.0.1.1.0 g.1
+    law.words_all s.args.read s.args.table.now s.args.serials.now s.args.list.now (length s.args.page.now) s.requires g.0.0 g.0.1.0 g.0.1.1.0 g.1
 
 -- src/lib.rt:124:73
 slice-aggregate-put-survey-2 : tie.Need-slice-aggregate-put-survey-2
@@ -36,7 +36,7 @@ slice-aggregate-put-survey-2 c =
     let R = c.before.before.before.before in
     let s = R.before.before.before.before.before.before in
     let g = R.read.given in
-    law.serials-all s.args.read s.args.table.now s.args.serials.now s.args.list.now (length s.args.page.now) s.requires g.0.0 g.0.1.0 g.0.1.1.0 g.1
+    law.serials_all s.args.read s.args.table.now s.args.serials.now s.args.list.now (length s.args.page.now) s.requires g.0.0 g.0.1.0 g.0.1.1.0 g.1
 
 -- src/lib.rt:124:13
 put-survey-requires : tie.Need-put-survey-requires
@@ -44,7 +44,7 @@ put-survey-requires c κs =
     let R = c.before.before.before.before.before in
     let s = R.before.before.before.before.before.before in
     let g = R.read.given in
-    law.survey-ready s.args.read s.args.table.now s.args.serials.now s.args.list.now (length s.args.page.now) s.requires g.0.0 g.0.1.0 g.0.1.1.0 g.1
+    law.survey_ready s.args.read s.args.table.now s.args.serials.now s.args.list.now (length s.args.page.now) s.requires g.0.0 g.0.1.0 g.0.1.1.0 g.1
 
 -- src/lib.rt:126:29
 enum-known-read-2 : tie.Need-enum-known-read-2
@@ -73,7 +73,7 @@ returns c =
     let R = P.before.before.before.before.before.before in
     let s = R.before.before.before.before.before.before in
     let g = R.read.given in
-    λ bs w. law.page-read s.args.read s.args.table.now s.args.serials.now s.args.list.now (length s.args.page.now) s.requires g.0.0 g.0.1.0 g.0.1.1.0 g.1 bs w _ _ _ s.requires.room P.put-survey.ensures
+    λ bs w. law.page_read s.args.read s.args.table.now s.args.serials.now s.args.list.now (length s.args.page.now) s.requires g.0.0 g.0.1.0 g.0.1.1.0 g.1 bs w _ _ _ s.requires.room P.put-survey.ensures
 
 -- src/lib.rt:107:1
 same-length-3 : tie.Need-same-length-3
@@ -87,7 +87,7 @@ returns-2 c =
     let R = N.before.before.before in
     let s = R.before.before.before.before.before.before in
     let g = R.read2.given in
-    λ bs w. law.page-refused bs s.args.read s.args.table.now s.args.serials.now g.0.0 _ _ _ g.1 w s.requires.room N.number.result N.number.ensures P.Put-refused.ensures
+    λ bs w. law.page_refused bs s.args.read s.args.table.now s.args.serials.now g.0.0 _ _ _ g.1 w s.requires.room N.number.result N.number.ensures P.Put-refused.ensures
 
 pub put-answer-spec : {M : Type 1} → statement M
 put-answer-spec =

@@ -4,7 +4,7 @@ use Prim.Native.Nat.{◌≤◌, ◌-◌}
 use native.Mathlib.Omega.{arith}
 use lib.ListN.{length}
 use Rattle.page.specs.Steps.{LevelPut}
-use Rattle.page.proofs.Level.{level-none, level-room, level-more, level_all}
+use Rattle.page.proofs.Level.{level_none, level_room, level_more, level_all}
 use Rattle.page.proofs.put_level.Statement.{statement}
 use Rattle.page.proofs.put_level.Tie as tie
 use Rattle.page.proofs.put_level.Reads as reads
@@ -22,7 +22,7 @@ decreases-loop page₀ at k serials list g place₀ i₀ page place i = g - i
 -- src/lib.rt:56:5
 loop-holds : tie.Need-loop-init invariant-loop decreases-loop
 loop-holds c =
-    (search rules, refl, level-none _ _ _ _ _)
+    (search rules, refl, level_none _ _ _ _ _)
 
 -- src/lib.rt:57:50
 add-put-group : tie.Need-overflow-add-put-group invariant-loop decreases-loop
@@ -40,7 +40,7 @@ put-group-requires c κs =
     let I = i.loop.invariant in
     let F = s.requires in
     let t = c.before.before.loop-test.true in
-    (omega (arith, F.level), omega (arith, t, F.most), F.few, omega (arith, I.1, level-room s.args.at s.args.k s.args.serials.now s.args.list.now i.loop.i i.loop.place s.args.page.now i.loop.page I.2 c.of_row.result c.of_row.ensures s.args.g (length s.args.page.now) F t))
+    (omega (arith, F.level), omega (arith, t, F.most), F.few, omega (arith, I.1, level_room s.args.at s.args.k s.args.serials.now s.args.list.now i.loop.i i.loop.place s.args.page.now i.loop.page I.2 c.of_row.result c.of_row.ensures s.args.g (length s.args.page.now) F t))
 
 -- src/lib.rt:56:9
 add-i : tie.Need-overflow-add-i invariant-loop decreases-loop
@@ -58,7 +58,7 @@ loop-again c =
     let i = o.before.before.before in
     let s = i.before.before.before.before in
     let I = i.loop.invariant in
-    (omega (arith, o.before.before.loop-test.true), P.put-group.ensures.0.long ∙ I.1, level-more s.args.at s.args.k s.args.serials.now s.args.list.now i.loop.i i.loop.place s.args.page.now i.loop.page I.2 o.of_row.result o.of_row.ensures _ _ P.put-group.ensures.0 P.put-group.ensures.1)
+    (omega (arith, o.before.before.loop-test.true), P.put-group.ensures.0.long ∙ I.1, level_more s.args.at s.args.k s.args.serials.now s.args.list.now i.loop.i i.loop.place s.args.page.now i.loop.page I.2 o.of_row.result o.of_row.ensures _ _ P.put-group.ensures.0 P.put-group.ensures.1)
 
 -- src/lib.rt:51:1
 same_length : tie.Need-same-length invariant-loop decreases-loop

@@ -24,7 +24,7 @@ decreases-loop page₀ at n table serials list₀ top₀ place₀ page list top 
 -- src/lib.rt:76:5
 loop-holds : tie.Need-loop-init invariant-loop decreases-loop
 loop-holds c =
-    (search rules, c.before.before.before.before.requires.rows, refl, up.levels-none _ _ _ _ _)
+    (search rules, c.before.before.before.before.requires.rows, refl, up.levels_none _ _ _ _ _)
 
 -- src/lib.rt:77:45
 first-n-requires : tie.Need-first-n-requires invariant-loop decreases-loop
@@ -43,7 +43,7 @@ list-within-requires c κs =
     let i = t.before in
     let s = i.before.before.before.before.before in
     let I = i.loop.invariant in
-    up.level-asked s.args.at s.args.n s.args.table.now s.args.serials.now s.args.list.now (length s.args.page.now) s.requires i.loop.top i.loop.place s.args.page.now i.loop.page I.3 (omega (arith, t.loop-test.true)) i.loop.list I.1 F.first-n.result F.first-n.ensures
+    up.level_asked s.args.at s.args.n s.args.table.now s.args.serials.now s.args.list.now (length s.args.page.now) s.requires i.loop.top i.loop.place s.args.page.now i.loop.page I.3 (omega (arith, t.loop-test.true)) i.loop.list I.1 F.first-n.result F.first-n.ensures
 
 -- src/lib.rt:79:13
 same_length : tie.Need-same-length invariant-loop decreases-loop
@@ -82,7 +82,7 @@ put-level-requires c κs =
     let i = t.before in
     let s = i.before.before.before.before.before in
     let I = i.loop.invariant in
-    up.level-fit s.args.at s.args.n s.args.table.now s.args.serials.now s.args.list.now (length s.args.page.now) s.requires i.loop.top i.loop.place s.args.page.now i.loop.page I.3 (omega (arith, t.loop-test.true)) i.loop.list I.1 F.first-n.result F.first-n.ensures W.list-within.new.1.1.1.0 W.list-within.result W.list-within.ensures (sym I.2)
+    up.level_fit s.args.at s.args.n s.args.table.now s.args.serials.now s.args.list.now (length s.args.page.now) s.requires i.loop.top i.loop.place s.args.page.now i.loop.page I.3 (omega (arith, t.loop-test.true)) i.loop.list I.1 F.first-n.result F.first-n.ensures W.list-within.new.1.1.1.0 W.list-within.result W.list-within.ensures (sym I.2)
 
 -- src/lib.rt:82:9
 add-top : tie.Need-overflow-add-top invariant-loop decreases-loop
@@ -103,7 +103,7 @@ loop-again c =
     let i = t.before in
     let s = i.before.before.before.before.before in
     let I = i.loop.invariant in
-    (omega (arith, t.loop-test.true), up.rows-again s.args.at s.args.n s.args.table.now s.args.serials.now s.args.list.now (length s.args.page.now) s.requires i.loop.top i.loop.place s.args.page.now i.loop.page I.3 (omega (arith, t.loop-test.true)) i.loop.list I.1 F.first-n.result F.first-n.ensures W.list-within.new.1.1.1.0 W.list-within.result W.list-within.ensures, P.put-level.ensures.added.long ∙ I.2, up.levels-more s.args.at s.args.n s.args.table.now s.args.serials.now s.args.list.now (length s.args.page.now) s.requires i.loop.top i.loop.place s.args.page.now i.loop.page I.3 (omega (arith, t.loop-test.true)) i.loop.list I.1 F.first-n.result F.first-n.ensures W.list-within.new.1.1.1.0 W.list-within.result W.list-within.ensures _ _ E.if1.false P.put-level.ensures)
+    (omega (arith, t.loop-test.true), up.rows_again s.args.at s.args.n s.args.table.now s.args.serials.now s.args.list.now (length s.args.page.now) s.requires i.loop.top i.loop.place s.args.page.now i.loop.page I.3 (omega (arith, t.loop-test.true)) i.loop.list I.1 F.first-n.result F.first-n.ensures W.list-within.new.1.1.1.0 W.list-within.result W.list-within.ensures, P.put-level.ensures.added.long ∙ I.2, up.levels_more s.args.at s.args.n s.args.table.now s.args.serials.now s.args.list.now (length s.args.page.now) s.requires i.loop.top i.loop.place s.args.page.now i.loop.page I.3 (omega (arith, t.loop-test.true)) i.loop.list I.1 F.first-n.result F.first-n.ensures W.list-within.new.1.1.1.0 W.list-within.result W.list-within.ensures _ _ E.if1.false P.put-level.ensures)
 
 -- src/lib.rt:63:1
 same-length-3 : tie.Need-same-length-3 invariant-loop decreases-loop

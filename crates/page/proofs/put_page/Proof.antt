@@ -17,7 +17,7 @@ put-answer-requires : tie.Need-put-answer-requires
 put-answer-requires c κs =
     let R = c.before.before.before.before.before.before.before.before in
     let s = R.before.before.before.before.before.before.before.before in
-    law.answer-ready s.args.survey.now s.args.serials.now s.args.table.now R.read.new.1.0 R.read.new.1.1.0 R.read.result R.read.ensures s.requires.1 s.requires.2 _ _ s.requires.3 s.requires.0
+    law.answer_ready s.args.survey.now s.args.serials.now s.args.table.now R.read.new.1.0 R.read.new.1.1.0 R.read.result R.read.ensures s.requires.1 s.requires.2 _ _ s.requires.3 s.requires.0
 
 -- src/lib.rt:131:1
 same_length : tie.Need-same-length

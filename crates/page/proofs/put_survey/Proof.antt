@@ -1,6 +1,6 @@
 use native.Mathlib.Omega.{arith}
 use Rattle.lines.proofs.Adding.{added_then}
-use Rattle.page.proofs.Upward.{room-16, room_most}
+use Rattle.page.proofs.Upward.{room_16, room_most}
 use borrow.Author.Rules.{rules}
 use Rattle.page.proofs.put_survey.Statement.{statement}
 use Rattle.page.proofs.put_survey.Tie as tie
@@ -21,9 +21,9 @@ put-levels-requires c κs =
     let s = P.before.before.before.before.before.before in
     record {
       table = s.requires.table;
-      all-serials = s.requires.all-serials;
+      all_serials = s.requires.all_serials;
       rows = s.requires.rows;
-      room = omega (arith, P.put_first.ensures.1, P.put_first.ensures.0.long, s.requires.room, room-16);
+      room = omega (arith, P.put_first.ensures.1, P.put_first.ensures.0.long, s.requires.room, room_16);
     }
 
 -- src/lib.rt:102:5

@@ -5,9 +5,9 @@ use borrow.Author.Rules.{rules}
 use Rattle.stations.specs.Sets.{◌cut◌}
 use Rattle.stations.specs.Words.{members}
 use Rattle.stations.specs.Answers.{FirstOf}
-use Rattle.stations.proofs.Laws.{has-small}
+use Rattle.stations.proofs.Laws.{has_small}
 use Rattle.mesh.specs.Table.{linked}
-use Rattle.pairs.proofs.Starts.{around-start, around-of, around-none}
+use Rattle.pairs.proofs.Starts.{around_start, around_of, around_none}
 use Rattle.pairs.proofs.around.Statement.{statement}
 use Rattle.pairs.proofs.around.Tie as tie
 
@@ -28,14 +28,14 @@ enum-known-f : tie.Need-enum-known-f
 enum-known-f c = search rules
 
 without-requires : tie.Need-without-requires
-without-requires c κs = has-small _ _ refl c.before.before.before.before.before.before.before.requires.1
+without-requires c κs = has_small _ _ refl c.before.before.before.before.before.before.before.requires.1
 
 settle-requires : tie.Need-settle-requires
 settle-requires c κs =
     let m = c.before.before.before.before in
     let k = m.before in
     let s = k.before.before.before in
-    around-start s.args.table.now s.args.p s.args.j s.requires.0 s.requires.1 c.without.result k.cut.result (near k) c.without.ensures
+    around_start s.args.table.now s.args.p s.args.j s.requires.0 s.requires.1 c.without.result k.cut.result (near k) c.without.ensures
     c.before.before.f.given.0.0 (subst (FirstOf (members k.cut.result)) c.before.before.f.given.1 m.first.ensures).mine
 
 enum_told : tie.Need-enum-told
@@ -45,7 +45,7 @@ returns : tie.Need-returns
 returns c =
     let k = c.before.before.before.before.before.before in
     let s = k.before.before.before in
-    around-of s.args.table.now s.args.p s.args.j s.requires.0 s.requires.1 c.before.without.result k.cut.result (near k) c.before.without.ensures
+    around_of s.args.table.now s.args.p s.args.j s.requires.0 s.requires.1 c.before.without.result k.cut.result (near k) c.before.without.ensures
     s.args.most c.settle.result c.settle.ensures
 
 returns-2 : tie.Need-returns-2
@@ -53,7 +53,7 @@ returns-2 c =
     let m = c.before.before in
     let k = m.before in
     let s = k.before.before.before in
-    around-none s.args.table.now s.args.p s.args.j s.requires.0 s.requires.1 s.args.p k.cut.result (near k) s.args.most
+    around_none s.args.table.now s.args.p s.args.j s.requires.0 s.requires.1 s.args.p k.cut.result (near k) s.args.most
     (subst (FirstOf (members k.cut.result)) c.enum_told.given.1 m.first.ensures)
 
 pub around-spec : {M : Type 1} → statement M

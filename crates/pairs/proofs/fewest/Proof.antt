@@ -6,10 +6,10 @@ use borrow.Author.Rules.{rules}
 use Rattle.stations.specs.Sets.{◌cut◌, size}
 use Rattle.stations.specs.Words.{members}
 use Rattle.stations.specs.Answers.{FirstOf, Least}
-use Rattle.stations.proofs.Laws.{has-small}
+use Rattle.stations.proofs.Laws.{has_small}
 use Rattle.mesh.specs.Table.{linked}
 use Rattle.pairs.proofs.Turns.{size_less}
-use Rattle.pairs.proofs.Links.{Leading, count-links, leading-begin, leading-take, leading-pass, leading_end}
+use Rattle.pairs.proofs.Links.{Leading, count_links, leading_begin, leading_take, leading_pass, leading_end}
 use Rattle.pairs.proofs.fewest.Statement.{statement}
 use Rattle.pairs.proofs.fewest.Tie as tie
 
@@ -35,7 +35,7 @@ module _ (c : tie.After-known-told invariant-loop decreases-loop) where
 
 links : (c : tie.After-size2 invariant-loop decreases-loop)
     → c.size2.result ≡ size 256 (members (start (at c.before.before.before)).args.p cut linked (start (at c.before.before.before)).args.table.now (v c.before.before.before))
-links c = count-links _ _ _ c.size2.ensures (λ x. simp (c.before.cut2.ensures, c.before.before.of-row2.ensures))
+links c = count_links _ _ _ c.size2.ensures (λ x. simp (c.before.cut2.ensures, c.before.before.of-row2.ensures))
 
 of-row-requires : tie.Need-of-row-requires invariant-loop decreases-loop
 of-row-requires c κs = c.before.requires.0 _ c.before.requires.1
@@ -47,12 +47,12 @@ size-requires : tie.Need-size-requires invariant-loop decreases-loop
 size-requires c κs = tt
 
 without-requires : tie.Need-without-requires invariant-loop decreases-loop
-without-requires c κs = has-small _ _ refl c.before.before.before.before.requires.1
+without-requires c κs = has_small _ _ refl c.before.before.before.before.requires.1
 
 loop-holds : tie.Need-loop-init invariant-loop decreases-loop
 loop-holds c =
     let s = c.before.before.before.before.before in
-    leading-begin _ _ _ _ _ s.requires.1 (count-links _ _ _ c.before.size.ensures (λ x. simp (c.before.before.cut.ensures, c.before.before.before.of_row.ensures))) c.without.ensures
+    leading_begin _ _ _ _ _ s.requires.1 (count_links _ _ _ c.before.size.ensures (λ x. simp (c.before.before.cut.ensures, c.before.before.before.of_row.ensures))) c.without.ensures
 
 first-requires : tie.Need-first-requires invariant-loop decreases-loop
 first-requires c κs = tt
@@ -87,9 +87,9 @@ loop-again c =
     let rest = members c.without2.result in
     ⊎_elim
     (λ w. subst₂ (λ (a b : ℕ). Leading L p a b rest) (sym w.1) (sym w.2)
-    (leading-take L p l.loop.at l.loop.best (members l.loop.rest) l.loop.inv (v k) z.size2.result rest (least k).mine (links z) c.without2.ensures w.0.taken))
+    (leading_take L p l.loop.at l.loop.best (members l.loop.rest) l.loop.inv (v k) z.size2.result rest (least k).mine (links z) c.without2.ensures w.0.taken))
     (λ w. subst₂ (λ (a b : ℕ). Leading L p a b rest) (sym w.1) (sym w.2)
-    (leading-pass L p l.loop.at l.loop.best (members l.loop.rest) l.loop.inv (v k) z.size2.result rest (least k).mine (links z) c.without2.ensures w.0.left))
+    (leading_pass L p l.loop.at l.loop.best (members l.loop.rest) l.loop.inv (v k) z.size2.result rest (least k).mine (links z) c.without2.ensures w.0.left))
     c.before.if1.branch
 
 enum_told : tie.Need-enum-told invariant-loop decreases-loop

@@ -4,17 +4,17 @@ use Prim.Native.Nat.{ℕ, ◌+◌, ◌*◌, ◌<◌, ◌≤◌}
 use lib.ListN.{length}
 use native.Mathlib.Omega.{arith}
 use borrow.Author.Rules.{rules}
-use Rattle.stations.specs.Sets.{◌is-in◌, ◌not-in◌, ◌cut◌, ◌without◌, size}
+use Rattle.stations.specs.Sets.{◌is_in◌, ◌not_in◌, ◌cut◌, ◌without◌, size}
 use Rattle.search.proofs.OneSource.{inner}
 use Rattle.stations.specs.Words.{members}
 use Rattle.stations.specs.Answers.{FirstOf, Least}
-use Rattle.stations.proofs.Laws.{has-small}
+use Rattle.stations.proofs.Laws.{has_small}
 use Rattle.mesh.specs.Mesh.{Mesh}
 use Rattle.mesh.specs.Table.{linked}
-use Rattle.flow.specs.Net.{netOf, Flow}
+use Rattle.flow.specs.Net.{net_of, Flow}
 use Rattle.flow.specs.declared.Cut.{Cut}
 use Rattle.pairs.specs.declared.Settled.TheVariants.{Firm}
-use Rattle.pairs.proofs.Turns.{Open, Round, inner-in, size_less, open-begin, source_in, round-begin, round-turn, round-found, open-again, open_none, open-level}
+use Rattle.pairs.proofs.Turns.{Open, Round, inner_in, size_less, open_begin, source_in, round_begin, round_turn, round_found, open_again, open_none, open_level}
 use Rattle.pairs.proofs.settle.Statement.{statement}
 use Rattle.pairs.proofs.settle.Tie as tie
 
@@ -38,14 +38,14 @@ module _ (c : tie.At-pairs invariant-loop decreases-loop invariant-pairs decreas
   mesh = c.before.before.requires.piece.mesh
 
   -- a station of q has its row
-  has-row : (x : ℕ) → x is-in members c.pairs.q → x * 4 + 4 ≤ length c.before.before.args.table.now
+  has-row : (x : ℕ) → x is_in members c.pairs.q → x * 4 + 4 ≤ length c.before.before.args.table.now
   has-row x g = c.before.before.requires.piece.fits x (c.pairs.invariant.peeled.part x g)
 
-  u-in : c.pairs.u is-in members c.pairs.q
+  u-in : c.pairs.u is_in members c.pairs.q
   u-in = source_in mesh c.pairs.invariant
 
   u-small : c.pairs.u < 256
-  u-small = has-small _ _ refl u-in
+  u-small = has_small _ _ refl u-in
 
 -- the head of the loop over sources, from that of the loop over the stations that are tried
 abbrev head : tie.At-loop invariant-loop decreases-loop invariant-pairs decreases-pairs → tie.At-pairs invariant-loop decreases-loop invariant-pairs decreases-pairs
@@ -62,7 +62,7 @@ module _ (c : tie.After-known-told invariant-loop decreases-loop invariant-pairs
   least : Least (members at.loop.left) v
   least = subst (FirstOf (members at.loop.left)) c.before.f.given.1 c.before.before.before.first.ensures
 
-  v-in : v is-in members (head at).pairs.q
+  v-in : v is_in members (head at).pairs.q
   v-in = at.loop.inv.0.inside v least.mine
 
 -- the flow goes inside q without u and v
@@ -76,7 +76,7 @@ starts c x = simp c.of-row2.ensures
 
 -- what an answer of the flow tells
 abbrev told : tie.After-flow invariant-loop decreases-loop invariant-pairs decreases-pairs → Cut → Type 0
-told c = Flow (netOf (head (at c.before.before.before.before)).before.before.args.table.now c.before.before.without2.result c.before.of-row2.result (at c.before.before.before.before).loop.known)
+told c = Flow (net_of (head (at c.before.before.before.before)).before.before.args.table.now c.before.before.without2.result c.before.of-row2.result (at c.before.before.before.before).loop.known)
     (head (at c.before.before.before.before)).pairs.level
 
 -- ---- u is settled, and taken out
@@ -94,7 +94,7 @@ module _ (c : tie.After-fewer invariant-loop decreases-loop invariant-pairs decr
   links x = simp (done.before.before.before.cut.ensures, done.before.before.before.before.of_row.ensures)
 
 pairs-holds : tie.Need-pairs-init invariant-loop decreases-loop invariant-pairs decreases-pairs
-pairs-holds c = open-begin _ _ _ _ _ _ c.before.requires
+pairs-holds c = open_begin _ _ _ _ _ _ c.before.requires
 
 of-row-requires : tie.Need-of-row-requires invariant-loop decreases-loop invariant-pairs decreases-pairs
 of-row-requires c κs = has-row c.before _ (u-in c.before)
@@ -111,7 +111,7 @@ minus-requires c κs = tt
 loop-holds : tie.Need-loop-init invariant-loop decreases-loop invariant-pairs decreases-pairs
 loop-holds c =
     let a = c.before.before.before.before.before in (
-      round-begin (mesh a) a.pairs.invariant c.before.before.cut.result c.before.with.result c.minus.result
+      round_begin (mesh a) a.pairs.invariant c.before.before.cut.result c.before.with.result c.minus.result
           (λ x. simp (c.before.before.cut.ensures, c.before.before.before.of_row.ensures)) c.before.with.ensures c.minus.ensures,
       a.pairs.invariant.unsettled,
     )
@@ -135,7 +135,7 @@ flow-requires : tie.Need-flow-requires invariant-loop decreases-loop invariant-p
 flow-requires c κs =
     let k = c.before.before.before in
     let a = head (at k) in
-    λ x g. has-row a x (inner-in (members a.pairs.q) a.pairs.u (v k) x (sym (inside c.before x) ∙ g))
+    λ x g. has-row a x (inner_in (members a.pairs.q) a.pairs.u (v k) x (sym (inside c.before x) ∙ g))
 
 enum-known-r : tie.Need-enum-known-r invariant-loop decreases-loop invariant-pairs decreases-pairs
 enum-known-r c = search rules
@@ -165,7 +165,7 @@ loop-again c =
     let f = c.before.before.before.before in
     let k = f.before.before.before.before in
     let a = head (at k) in (
-      round-turn (mesh a) a.pairs.inv (at k).loop.known (at k).loop.left (v k) (at k).loop.invariant.0 (least k).mine f.before.before.without2.result f.before.of-row2.result
+      round_turn (mesh a) a.pairs.inv (at k).loop.known (at k).loop.left (v k) (at k).loop.invariant.0 (least k).mine f.before.before.without2.result f.before.of-row2.result
           (inside f.before.before) (starts f.before) c.before.with2.result c.without3.result c.before.with2.ensures c.without3.ensures
           (subst (told f) c.before.before.enum_told.given.1 f.flow.ensures),
       (at k).loop.invariant.1,
@@ -199,7 +199,7 @@ pairs-again : tie.Need-pairs-preserved invariant-loop decreases-loop invariant-p
 pairs-again c =
     let d = c.before.before.before.before in
     let a = head (done d) in
-    open-again (mesh a) a.pairs.inv (done d).loop.known (done d).loop.left (done d).loop.invariant.0 (nobody d) (some d) (done d).before.before.before.cut.result d.before.without5.result
+    open_again (mesh a) a.pairs.inv (done d).loop.known (done d).loop.left (done d).loop.invariant.0 (nobody d) (some d) (done d).before.before.before.cut.result d.before.without5.result
     d.before.before.without4.result d.fewer.result (links d) d.before.without5.ensures d.before.before.without4.ensures d.fewer.ensures c.before.g.given.0.0 (done d).loop.settled
     (subst (FirstOf (members d.fewer.result)) c.before.g.given.1 c.before.before.before.first2.ensures).mine (done d).loop.invariant.1
 
@@ -207,14 +207,14 @@ enum-told-3 : tie.Need-enum-told-3 invariant-loop decreases-loop invariant-pairs
 enum-told-3 c = search rules
 
 returns : tie.Need-returns invariant-loop decreases-loop invariant-pairs decreases-pairs
-returns c = open-level (mesh c.before) c.before.pairs.invariant c.pairs-test.false
+returns c = open_level (mesh c.before) c.before.pairs.invariant c.pairs-test.false
 
 returns-2 : tie.Need-returns-2 invariant-loop decreases-loop invariant-pairs decreases-pairs
 returns-2 c =
     let f = c.before.before.before.before.before in
     let k = f.before.before.before.before in
     let a = head (at k) in
-    round-found (mesh a) a.pairs.inv (at k).loop.known (at k).loop.left (v k) (at k).loop.invariant.0 (least k).mine f.before.before.without2.result f.before.of-row2.result
+    round_found (mesh a) a.pairs.inv (at k).loop.known (at k).loop.left (v k) (at k).loop.invariant.0 (least k).mine f.before.before.without2.result f.before.of-row2.result
     (inside f.before.before) (starts f.before) _ c.before.before.before.r.given.0.1.0 c.join.result
     (λ x. simp (c.join.ensures, c.before.minus2.ensures)) (subst (told f) c.before.before.before.r.given.1 f.flow.ensures)
 

@@ -3,7 +3,7 @@ use mathlib.Core.Path.{subst}
 use borrow.Author.Rules.{rules}
 use Rattle.stations.specs.Words.{members}
 use Rattle.stations.specs.Answers.{FirstOf}
-use Rattle.pairs.proofs.Starts.{weak-start, weak-of, weak-none}
+use Rattle.pairs.proofs.Starts.{weak_start, weak_of, weak_none}
 use Rattle.pairs.proofs.weak.Statement.{statement}
 use Rattle.pairs.proofs.weak.Tie as tie
 
@@ -20,19 +20,19 @@ fewest-requires c κs =
     (s.requires.fits, (subst (FirstOf (members s.args.p)) c.before.f.given.1 m.first.ensures).mine)
 
 settle-requires : tie.Need-settle-requires
-settle-requires c κs = weak-start _ _ _ c.before.before.before.before.before.before.requires c.fewest.ensures
+settle-requires c κs = weak_start _ _ _ c.before.before.before.before.before.before.requires c.fewest.ensures
 
 enum_told : tie.Need-enum-told
 enum_told c = search rules
 
 returns : tie.Need-returns
-returns c = let s = c.before.before.before.before.before.before.before in weak-of s.args.table.now s.args.p s.args.k c.settle.result c.settle.ensures
+returns c = let s = c.before.before.before.before.before.before.before in weak_of s.args.table.now s.args.p s.args.k c.settle.result c.settle.ensures
 
 returns-2 : tie.Need-returns-2
 returns-2 c =
     let m = c.before.before in
     let s = m.before.before in
-    weak-none s.args.table.now s.args.p s.args.k (subst (FirstOf (members s.args.p)) c.enum_told.given.1 m.first.ensures)
+    weak_none s.args.table.now s.args.p s.args.k (subst (FirstOf (members s.args.p)) c.enum_told.given.1 m.first.ensures)
 
 pub weak_spec : {M : Type 1} → statement M
 weak_spec =

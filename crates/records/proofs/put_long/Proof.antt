@@ -1,5 +1,5 @@
 use native.Mathlib.Omega.{arith}
-use Rattle.records.proofs.Fields.{kept_trans, two-long}
+use Rattle.records.proofs.Fields.{kept_trans, two_long}
 use borrow.Author.Rules.{rules}
 use Rattle.records.proofs.put_long.Statement.{statement}
 use Rattle.records.proofs.put_long.Tie as tie
@@ -20,7 +20,7 @@ returns : tie.Need-returns
 returns c =
     let p = c.before.before.before.before.before.before.put-short.ensures in
     let q = c.before.before.put-short2.ensures in
-    (kept_trans p.0 q.0 (omega arith), two-long _ _ q.0 p.1 q.1)
+    (kept_trans p.0 q.0 (omega arith), two_long _ _ q.0 p.1 q.1)
 
 pub put-long-spec : {M : Type 1} → statement M
 put-long-spec =

@@ -1,6 +1,6 @@
 use native.Mathlib.Omega.{arith}
 use lib.ListN.{length-set}
-use Rattle.records.proofs.Fields.{two-kept, two-short}
+use Rattle.records.proofs.Fields.{two_kept, two_short}
 use borrow.Author.Rules.{rules}
 use Rattle.records.proofs.put_short.Statement.{statement}
 use Rattle.records.proofs.put_short.Tie as tie
@@ -26,7 +26,7 @@ same_length c = search rules
 
 returns : tie.Need-returns
 returns c =
-    (two-kept c.args.bytes.now c.args.at _ _, two-short c.args.bytes.now c.args.at c.args.x (omega arith))
+    (two_kept c.args.bytes.now c.args.at _ _, two_short c.args.bytes.now c.args.at c.args.x (omega arith))
 
 pub put-short-spec : {M : Type 1} → statement M
 put-short-spec =

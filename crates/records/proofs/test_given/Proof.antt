@@ -4,7 +4,7 @@ use mathlib.Core.Path.{refl}
 use Prim.Native.Nat.{◌≤◌, ◌-◌}
 use native.Mathlib.Omega.{arith}
 use lib.ListN.{get_or}
-use Rattle.records.proofs.Climbing.{Climb, climb-none, climb-more, serials-broken, serials-passed}
+use Rattle.records.proofs.Climbing.{Climb, climb_none, climb_more, serials_broken, serials_passed}
 use Rattle.records.proofs.test_given.Statement.{statement}
 use Rattle.records.proofs.test_given.Tie as tie
 
@@ -22,7 +22,7 @@ returns c =
 
 loop-holds : tie.Need-loop-init invariant-loop decreases-loop
 loop-holds c =
-    (search rules, search rules, climb-none 1 _)
+    (search rules, search rules, climb_none 1 _)
 
 mul-wide-serial : tie.Need-overflow-mul-wide-serial invariant-loop decreases-loop
 mul-wide-serial c = search rules
@@ -35,7 +35,7 @@ wide-serial-requires c κs = search rules
 
 returns-2 : tie.Need-returns-2 invariant-loop decreases-loop
 returns-2 c =
-    inl (inr (serials-broken _ c.before.before.before.before.loop.invariant.2 c.before.before.before.loop-test.true (omega (arith, c.before.wide-serial.ensures.0, c.if2.true))), refl)
+    inl (inr (serials_broken _ c.before.before.before.before.loop.invariant.2 c.before.before.before.loop-test.true (omega (arith, c.before.wide-serial.ensures.0, c.if2.true))), refl)
 
 add-floor : tie.Need-overflow-add-floor invariant-loop decreases-loop
 add-floor c = search rules
@@ -48,11 +48,11 @@ loop-less c = search rules
 
 loop-again : tie.Need-loop-preserved invariant-loop decreases-loop
 loop-again c =
-    (search rules, omega (arith, c.before.wide-serial.ensures.1), climb-more c.before.before.before.before.loop.invariant.2 _ c.before.wide-serial.ensures.0 c.if2.false)
+    (search rules, omega (arith, c.before.wide-serial.ensures.1), climb_more c.before.before.before.before.loop.invariant.2 _ c.before.wide-serial.ensures.0 c.if2.false)
 
 returns-3 : tie.Need-returns-3 invariant-loop decreases-loop
 returns-3 c =
-    inr (λ f. elim f [ inl o ↦ o c.before.before.if1.false | inr g ↦ serials-passed c.before.loop.invariant.2 c.loop-test.false g ], refl)
+    inr (λ f. elim f [ inl o ↦ o c.before.before.if1.false | inr g ↦ serials_passed c.before.loop.invariant.2 c.loop-test.false g ], refl)
 
 pub test-given-spec : {M : Type 1} → statement M
 test-given-spec =

@@ -5,7 +5,7 @@ use Prim.Native.Nat.{◌≤◌, ◌-◌}
 use native.Mathlib.Omega.{arith}
 use Rattle.records.specs.Survey.{low, high}
 use Rattle.records.specs.Steps.{LinkAt}
-use Rattle.records.proofs.Climbing.{LinkClimb, links-none, links-more, links-broken, pairs-climbed, pairs-faultless}
+use Rattle.records.proofs.Climbing.{LinkClimb, links_none, links_more, links_broken, pairs_climbed, pairs_faultless}
 use Rattle.records.proofs.test_links.Statement.{statement}
 use Rattle.records.proofs.test_links.Tie as tie
 
@@ -25,7 +25,7 @@ add-from c = search rules
 
 loop-holds : tie.Need-loop-init invariant-loop decreases-loop
 loop-holds c =
-    (search rules, search rules, links-none _ _ _)
+    (search rules, search rules, links_none _ _ _)
 
 mul-link-record : tie.Need-overflow-mul-link-record invariant-loop decreases-loop
 mul-link-record c = search rules
@@ -45,7 +45,7 @@ enum_told c = search rules
 returns : tie.Need-returns invariant-loop decreases-loop
 returns c =
     let s = c.before.before.before.before in
-    inl (links-broken _ s.before.before.requires.0 s.loop.invariant.2 c.before.before.before.loop-test.true (subst (LinkAt _ _ _ _) c.enum_told.given.1 c.before.before.link-record.ensures), refl)
+    inl (links_broken _ s.before.before.requires.0 s.loop.invariant.2 c.before.before.before.loop-test.true (subst (LinkAt _ _ _ _) c.enum_told.given.1 c.before.before.link-record.ensures), refl)
 
 mul-floor : tie.Need-overflow-mul-floor invariant-loop decreases-loop
 mul-floor c =
@@ -72,11 +72,11 @@ loop-again : tie.Need-loop-preserved invariant-loop decreases-loop
 loop-again c =
     let s = c.before.before.before.before.before in
     let e = subst (LinkAt _ _ _ _) c.before.found.given.1 c.before.before.before.link-record.ensures in
-    (search rules, omega (arith, e.2, e.3, s.before.before.requires.0), links-more s.loop.invariant.2 _ _ e.0 e.1 e.2 e.3 e.4)
+    (search rules, omega (arith, e.2, e.3, s.before.before.requires.0), links_more s.loop.invariant.2 _ _ e.0 e.1 e.2 e.3 e.4)
 
 returns-2 : tie.Need-returns-2 invariant-loop decreases-loop
 returns-2 c =
-    inr (pairs-faultless (pairs-climbed c.before.before.before.requires.0 c.before.loop.invariant.2 c.loop-test.false), refl)
+    inr (pairs_faultless (pairs_climbed c.before.before.before.requires.0 c.before.loop.invariant.2 c.loop-test.false), refl)
 
 pub test-links-spec : {M : Type 1} → statement M
 test-links-spec =

@@ -5,7 +5,7 @@ use Prim.Native.Nat.{◌≤◌, ◌-◌}
 use native.Mathlib.Omega.{arith}
 use Rattle.records.specs.Survey.{serial}
 use Rattle.records.specs.Steps.{SerialAt}
-use Rattle.records.proofs.Climbing.{Climb, climb-none, climb-more, serials-broken, serials-passed}
+use Rattle.records.proofs.Climbing.{Climb, climb_none, climb_more, serials_broken, serials_passed}
 use Rattle.records.proofs.test_serials.Statement.{statement}
 use Rattle.records.proofs.test_serials.Tie as tie
 
@@ -19,7 +19,7 @@ decreases-loop bytes n floor₀ i₀ floor i =
 
 loop-holds : tie.Need-loop-init invariant-loop decreases-loop
 loop-holds c =
-    (search rules, search rules, climb-none 1 _)
+    (search rules, search rules, climb_none 1 _)
 
 mul-serial-record : tie.Need-overflow-mul-serial-record invariant-loop decreases-loop
 mul-serial-record c = search rules
@@ -38,7 +38,7 @@ enum_told c = search rules
 
 returns : tie.Need-returns invariant-loop decreases-loop
 returns c =
-    inl (serials-broken _ c.before.before.before.before.loop.invariant.2 c.before.before.before.loop-test.true (subst (SerialAt _ _ _) c.enum_told.given.1 c.before.before.serial-record.ensures), refl)
+    inl (serials_broken _ c.before.before.before.before.loop.invariant.2 c.before.before.before.loop-test.true (subst (SerialAt _ _ _) c.enum_told.given.1 c.before.before.serial-record.ensures), refl)
 
 add-floor : tie.Need-overflow-add-floor invariant-loop decreases-loop
 add-floor c =
@@ -54,11 +54,11 @@ loop-less c = search rules
 loop-again : tie.Need-loop-preserved invariant-loop decreases-loop
 loop-again c =
     let e = subst (SerialAt _ _ _) c.before.found.given.1 c.before.before.before.serial-record.ensures in
-    (search rules, omega (arith, e.2), climb-more c.before.before.before.before.before.loop.invariant.2 _ e.0 e.1)
+    (search rules, omega (arith, e.2), climb_more c.before.before.before.before.before.loop.invariant.2 _ e.0 e.1)
 
 returns-2 : tie.Need-returns-2 invariant-loop decreases-loop
 returns-2 c =
-    inr (serials-passed c.before.loop.invariant.2 c.loop-test.false, refl)
+    inr (serials_passed c.before.loop.invariant.2 c.loop-test.false, refl)
 
 pub test-serials-spec : {M : Type 1} → statement M
 test-serials-spec =

@@ -3,7 +3,7 @@ use mathlib.Core.Path.{◌≡◌, sym, ap, ◌∙◌}
 use Rattle.stations.specs.Words.{has}
 use Rattle.mesh.specs.Table.{linked}
 use Prim.Native.Nat.{ℕ}
-use Rattle.routes.proofs.Laws.{asked, counted, joined-pair}
+use Rattle.routes.proofs.Laws.{asked, counted, joined_pair}
 use borrow.Author.Rules.{rules}
 use Rattle.routes.proofs.ask.Statement.{statement}
 use Rattle.routes.proofs.ask.Tie as tie
@@ -27,7 +27,7 @@ has-requires c κs = search rules
 returns : tie.Need-returns
 returns c =
     let s = c.before.before.before.before.args in
-    joined-pair s.n s.table.now s.a s.b (ap (λ (w : List ℕ). has w s.b) (sym c.before.before.of_row.ensures) ∙ sym c.before.has.ensures ∙ c.if1.true)
+    joined_pair s.n s.table.now s.a s.b (ap (λ (w : List ℕ). has w s.b) (sym c.before.before.of_row.ensures) ∙ sym c.before.has.ensures ∙ c.if1.true)
 
 -- src/lib.rt:34:38
 first-n-requires : tie.Need-first-n-requires

@@ -4,7 +4,7 @@ use Prim.Native.Nat.{ℕ}
 use Rattle.card.specs.Card.{FirstFailing, verdict}
 use Rattle.card.specs.declared.Tested.{Tested}
 use Rattle.routes.specs.Reply.{order, number}
-use Rattle.routes.proofs.Laws.{ordered, passed, replied, refused-reply}
+use Rattle.routes.proofs.Laws.{ordered, passed, replied, refused_reply}
 use borrow.Author.Rules.{rules}
 use Rattle.routes.proofs.routes.Statement.{statement}
 use Rattle.routes.proofs.routes.Tie as tie
@@ -60,7 +60,7 @@ returns-2 : tie.Need-returns-2
 returns-2 c =
     let e = c.before.before.before in
     let s = e.before.before.before.before.args in
-    refused-reply s.n s.table.now s.a s.b c.before.tested.given.0.0 (subst (λ (v : Tested). FirstFailing (order s.n s.table.now s.a s.b) (verdict v)) c.before.tested.given.1 (first e))
+    refused_reply s.n s.table.now s.a s.b c.before.tested.given.0.0 (subst (λ (v : Tested). FirstFailing (order s.n s.table.now s.a s.b) (verdict v)) c.before.tested.given.1 (first e))
 
 pub routes-spec : {M : Type 1} → statement M
 routes-spec =

@@ -1,4 +1,4 @@
-use Rattle.standings.proofs.Laws.{asked, rows-room, told}
+use Rattle.standings.proofs.Laws.{asked, rows_room, told}
 use borrow.Author.Rules.{rules}
 use Rattle.standings.proofs.listed.Statement.{statement}
 use Rattle.standings.proofs.listed.Tie as tie
@@ -23,7 +23,7 @@ named-requires : tie.Need-named-requires
 named-requires c κs =
     let w = c.before.before.before in
     let s = w.before.before.before.before.before in
-    rows-room s.args.n s.args.table.now s.args.a s.args.k s.requires.0 s.args.list.now s.requires.1 w.before.before.first-n.result w.before.before.first-n.ensures w.list-within.new.1.1.1.0 w.list-within.result w.list-within.ensures
+    rows_room s.args.n s.args.table.now s.args.a s.args.k s.requires.0 s.args.list.now s.requires.1 w.before.before.first-n.result w.before.before.first-n.ensures w.list-within.new.1.1.1.0 w.list-within.result w.list-within.ensures
 
 -- src/lib.rt:58:1
 same_length : tie.Need-same-length

@@ -39,7 +39,7 @@ returns c =
     let i = c.before.before.before.before.loop.i in
     let a = c.before.before.before.before.before.before.args.a in
     record {
-      yes-so = λ _. (i, c.before.before.before.loop-test.true, ap (λ (w : List ℕ). has w a) (sym c.before.before.of_row.ensures) ∙ sym c.before.has.ensures ∙ c.if1.true);
+      yes_so = λ _. (i, c.before.before.before.loop-test.true, ap (λ (w : List ℕ). has w a) (sym c.before.before.of_row.ensures) ∙ sym c.before.has.ensures ∙ c.if1.true);
       not_so = λ e. never true refl e;
     }
 
@@ -59,7 +59,7 @@ loop-again c =
 
 -- src/lib.rt:45:1
 returns-2 : tie.Need-returns-2 invariant-loop decreases-loop
-returns-2 c = record { yes-so = λ e. never false e refl; not_so = λ _ (j, l, e). never _ e (c.before.loop.invariant.1 j (omega (arith, c.loop-test.false))) }
+returns-2 c = record { yes_so = λ e. never false e refl; not_so = λ _ (j, l, e). never _ e (c.before.loop.invariant.1 j (omega (arith, c.loop-test.false))) }
 
 pub named-spec : {M : Type 1} → statement M
 named-spec =

@@ -5,8 +5,8 @@ use Rattle.mesh.specs.Table.{linked}
 use Rattle.mesh.specs.Standing.{Standing, PairStanding}
 use Rattle.card.specs.Card.{FirstFailing, verdict, STATION, PAIR}
 use Rattle.card.specs.declared.Tested.{Tested}
-use Rattle.standings.specs.Reply.{pair-order}
-use Rattle.standings.proofs.Laws.{ordered, passed, replied, refused-reply}
+use Rattle.standings.specs.Reply.{pair_order}
+use Rattle.standings.proofs.Laws.{ordered, passed, replied, refused_reply}
 use borrow.Author.Rules.{rules}
 use Rattle.standings.proofs.pair_standing.Statement.{statement}
 use Rattle.standings.proofs.pair_standing.Tie as tie
@@ -19,7 +19,7 @@ use Rattle.standings.proofs.smaller.Reads as smaller-reads
 
 -- src/lib.rt:117:9
 -- the number that the tests come to
-first : (c : tie.After-then) → let s = c.before.before.before.before.args in FirstFailing (pair-order s.n s.table.now s.a s.b) (verdict c.then.result)
+first : (c : tie.After-then) → let s = c.before.before.before.before.args in FirstFailing (pair_order s.n s.table.now s.a s.b) (verdict c.then.result)
 first c =
     let s = c.before.before.before.before.args in
     ordered s.n s.table.now (PAIR s.n s.a s.b) (omega arith) _ _ _ c.before.before.test_table.ensures c.before.test-pair.ensures c.then.ensures
@@ -55,15 +55,15 @@ returns : tie.Need-returns
 returns c =
     let e = c.before.before.before in
     let s = e.before.before.before.before.args in
-    replied (pair-order s.n s.table.now s.a s.b) (PairStanding (linked s.table.now) s.n s.a s.b) (verdict e.then.result) _ (first e) (ap verdict c.before.enum_told.given.1) c.smaller.ensures
+    replied (pair_order s.n s.table.now s.a s.b) (PairStanding (linked s.table.now) s.n s.a s.b) (verdict e.then.result) _ (first e) (ap verdict c.before.enum_told.given.1) c.smaller.ensures
 
 -- src/lib.rt:114:1
 returns-2 : tie.Need-returns-2
 returns-2 c =
     let e = c.before.before.before in
     let s = e.before.before.before.before.args in
-    refused-reply (pair-order s.n s.table.now s.a s.b) (PairStanding (linked s.table.now) s.n s.a s.b) c.before.tested.given.0.0
-    (subst (λ (v : Tested). FirstFailing (pair-order s.n s.table.now s.a s.b) (verdict v)) c.before.tested.given.1 (first e))
+    refused_reply (pair_order s.n s.table.now s.a s.b) (PairStanding (linked s.table.now) s.n s.a s.b) c.before.tested.given.0.0
+    (subst (λ (v : Tested). FirstFailing (pair_order s.n s.table.now s.a s.b) (verdict v)) c.before.tested.given.1 (first e))
 
 pub pair-standing-spec : {M : Type 1} → statement M
 pair-standing-spec =

@@ -2,7 +2,7 @@ use mathlib.Core.Logic.{inl, inr}
 use mathlib.Core.Path.{refl}
 use native.Mathlib.Omega.{arith}
 use Rattle.mesh.specs.Table.{linked}
-use Rattle.standings.proofs.Laws.{pair-stands}
+use Rattle.standings.proofs.Laws.{pair_stands}
 use borrow.Author.Rules.{rules}
 use Rattle.standings.proofs.smaller.Statement.{statement}
 use Rattle.standings.proofs.smaller.Tie as tie
@@ -22,13 +22,13 @@ standing-requires-2 c κs = search rules
 returns : tie.Need-returns
 returns c =
     let s = c.before.before.before.before.args in
-    pair-stands (linked s.table.now) s.n s.a s.b _ _ _ c.before.before.standing.ensures c.before.standing2.ensures (omega arith, omega (arith, c.if1.true), inl refl)
+    pair_stands (linked s.table.now) s.n s.a s.b _ _ _ c.before.before.standing.ensures c.before.standing2.ensures (omega arith, omega (arith, c.if1.true), inl refl)
 
 -- src/lib.rt:91:1
 returns-2 : tie.Need-returns-2
 returns-2 c =
     let s = c.before.before.before.before.args in
-    pair-stands (linked s.table.now) s.n s.a s.b _ _ _ c.before.before.standing.ensures c.before.standing2.ensures (omega (arith, c.if1.false), omega arith, inr refl)
+    pair_stands (linked s.table.now) s.n s.a s.b _ _ _ c.before.before.standing.ensures c.before.standing2.ensures (omega (arith, c.if1.false), omega arith, inr refl)
 
 pub smaller-spec : {M : Type 1} → statement M
 smaller-spec = tie.close (tie.spec standing-requires standing-requires-2 returns returns-2)

@@ -1,5 +1,5 @@
 use borrow.Author.Rules.{rules}
-use borrow.Author.Tests.{not-true, not-false}
+use borrow.Author.Tests.{not_true, not-false}
 use Prim.Native.Nat.{ℕ, ◌<◌, ◌≤◌, ◌+◌, ◌-◌}
 use native.Mathlib.Omega.{arith}
 use Rattle.standings.specs.Steps.{InGroup, Asked}
@@ -33,7 +33,7 @@ returns : tie.Need-returns invariant-loop decreases-loop
 returns c =
     let s = c.before.before.before.before.before in
     let i = c.before.before.before.loop in
-    stands s.args.n s.args.table.now s.args.a s.requires i.v i.invariant.0 i.invariant.1 (λ _. c.before.in_group.ensures.not_so (not-true _ c.if1.true))
+    stands s.args.n s.args.table.now s.args.a s.requires i.v i.invariant.0 i.invariant.1 (λ _. c.before.in_group.ensures.not_so (not_true _ c.if1.true))
 
 -- src/lib.rt:77:9
 add-v : tie.Need-overflow-add-v invariant-loop decreases-loop
@@ -45,7 +45,7 @@ loop-less c = search rules
 
 -- src/lib.rt:73:5
 loop-again : tie.Need-loop-preserved invariant-loop decreases-loop
-loop-again c = (search rules, λ _. c.before.in_group.ensures.yes-so (not-false _ c.if1.false))
+loop-again c = (search rules, λ _. c.before.in_group.ensures.yes_so (not-false _ c.if1.false))
 
 -- src/lib.rt:68:1
 returns-2 : tie.Need-returns-2 invariant-loop decreases-loop

@@ -5,8 +5,8 @@ use Rattle.mesh.specs.Table.{linked}
 use Rattle.mesh.specs.Standing.{Standing, PairStanding}
 use Rattle.card.specs.Card.{FirstFailing, verdict, STATION, PAIR}
 use Rattle.card.specs.declared.Tested.{Tested}
-use Rattle.standings.specs.Reply.{station-order}
-use Rattle.standings.proofs.Laws.{ordered, passed, replied, refused-reply}
+use Rattle.standings.specs.Reply.{station_order}
+use Rattle.standings.proofs.Laws.{ordered, passed, replied, refused_reply}
 use borrow.Author.Rules.{rules}
 use Rattle.standings.proofs.station_standing.Statement.{statement}
 use Rattle.standings.proofs.station_standing.Tie as tie
@@ -19,7 +19,7 @@ use Rattle.standings.proofs.standing.Reads as standing-reads
 
 -- src/lib.rt:104:9
 -- the number that the tests come to
-first : (c : tie.After-then) → let s = c.before.before.before.before.args in FirstFailing (station-order s.n s.table.now s.a) (verdict c.then.result)
+first : (c : tie.After-then) → let s = c.before.before.before.before.args in FirstFailing (station_order s.n s.table.now s.a) (verdict c.then.result)
 first c =
     let s = c.before.before.before.before.args in
     ordered s.n s.table.now (STATION s.n s.a) (omega arith) _ _ _ c.before.before.test_table.ensures c.before.test-station.ensures c.then.ensures
@@ -55,15 +55,15 @@ returns : tie.Need-returns
 returns c =
     let e = c.before.before.before in
     let s = e.before.before.before.before.args in
-    replied (station-order s.n s.table.now s.a) (Standing (linked s.table.now) s.n s.a) (verdict e.then.result) _ (first e) (ap verdict c.before.enum_told.given.1) c.standing.ensures
+    replied (station_order s.n s.table.now s.a) (Standing (linked s.table.now) s.n s.a) (verdict e.then.result) _ (first e) (ap verdict c.before.enum_told.given.1) c.standing.ensures
 
 -- src/lib.rt:101:1
 returns-2 : tie.Need-returns-2
 returns-2 c =
     let e = c.before.before.before in
     let s = e.before.before.before.before.args in
-    refused-reply (station-order s.n s.table.now s.a) (Standing (linked s.table.now) s.n s.a) c.before.tested.given.0.0
-    (subst (λ (v : Tested). FirstFailing (station-order s.n s.table.now s.a) (verdict v)) c.before.tested.given.1 (first e))
+    refused_reply (station_order s.n s.table.now s.a) (Standing (linked s.table.now) s.n s.a) c.before.tested.given.0.0
+    (subst (λ (v : Tested). FirstFailing (station_order s.n s.table.now s.a) (verdict v)) c.before.tested.given.1 (first e))
 
 pub station-standing-spec : {M : Type 1} → statement M
 station-standing-spec =

@@ -8,9 +8,9 @@ use lib.ListN.{length}
 use Rattle.stations.specs.Sets.{Set}
 use Rattle.stations.specs.Words.{has, words, members}
 use Rattle.stations.specs.Answers.{Least, FirstOf}
-use Rattle.stations.proofs.Laws.{before-mine, before-theirs, before-differs, row-whole, xor-eq}
-use Rattle.stations.proofs.Order.{before-not-after}
-use Rattle.stations.proofs.Replies.{short_row, row_first, row-second}
+use Rattle.stations.proofs.Laws.{before_mine, before_theirs, before_differs, row_whole, xor_eq}
+use Rattle.stations.proofs.Order.{before_not_after}
+use Rattle.stations.proofs.Replies.{short_row, row_first, row_second}
 use Rattle.stations.proofs.first_row.Statement.{statement}
 use Rattle.stations.proofs.first_row.Tie as tie
 
@@ -59,10 +59,10 @@ module _ (c : tie.After-first) where
   long-y = c.before.before.before.before.if2.false
 
   mine : words c.before.before.before.of_row.result ≡ x
-  mine = c.before.before.before.of_row.ensures ∙ row-whole x long-x
+  mine = c.before.before.before.of_row.ensures ∙ row_whole x long-x
 
   theirs : words c.before.before.of-row2.result ≡ y
-  theirs = c.before.before.of-row2.ensures ∙ row-whole y long-y
+  theirs = c.before.before.of-row2.ensures ∙ row_whole y long-y
 
   law : (j : ℕ) → d j ≡ xor (has x j) (has y j)
   law j = c.before.differ.ensures j ∙ ap₂ (λ (p q : List ℕ). xor (has p j) (has q j)) mine theirs
@@ -79,7 +79,7 @@ returns-3 c =
     let j : ℕ = c.before.before.before.f.given.0.0 in
     let l : Least (d e) j = subst (FirstOf (d e)) c.before.before.before.f.given.1 e.first.ensures in
     let h : has (x e) j ≡ true = ap (λ (p : List ℕ). has p j) (sym (mine e)) ∙ sym c.before.has.ensures ∙ c.if3.true in
-    row_first _ _ (long-x e) (long-y e) (before-not-after (has (x e)) (has (y e)) (before-mine (has (x e)) (has (y e)) (d e) (law e) j l h))
+    row_first _ _ (long-x e) (long-y e) (before_not_after (has (x e)) (has (y e)) (before_mine (has (x e)) (has (y e)) (d e) (law e) j l h))
 
 returns-4 : tie.Need-returns-4
 returns-4 c =
@@ -87,13 +87,13 @@ returns-4 c =
     let j : ℕ = c.before.before.before.f.given.0.0 in
     let l : Least (d e) j = subst (FirstOf (d e)) c.before.before.before.f.given.1 e.first.ensures in
     let h : has (x e) j ≡ false = ap (λ (p : List ℕ). has p j) (sym (mine e)) ∙ sym c.before.has.ensures ∙ c.if3.false in
-    row-second _ _ (long-x e) (long-y e) (before-theirs (has (x e)) (has (y e)) (d e) (law e) j l h)
+    row_second _ _ (long-x e) (long-y e) (before_theirs (has (x e)) (has (y e)) (d e) (law e) j l h)
 
 returns-5 : tie.Need-returns-5
 returns-5 c =
     let e = c.before.before in
     let z : (j : ℕ) → d e j ≡ false = subst (FirstOf (d e)) c.enum_told.given.1 e.first.ensures in
-    row_first _ _ (long-x e) (long-y e) (λ b. before-differs (has (y e)) (has (x e)) b (λ j. sym (xor-eq (has (x e) j) (has (y e) j) (sym (law e j) ∙ z j))))
+    row_first _ _ (long-x e) (long-y e) (λ b. before_differs (has (y e)) (has (x e)) b (λ j. sym (xor_eq (has (x e) j) (has (y e) j) (sym (law e j) ∙ z j))))
 
 pub first-row-spec : {M : Type 1} → statement M
 first-row-spec =

@@ -8,8 +8,8 @@ use lib.Dec.{lit<}
 use lib.Pow.{shl_exact}
 use borrow.Author.Tests.{ne_eqb}
 use Rattle.stations.specs.Words.{bit}
-use Rattle.stations.proofs.Bit.{bit-one, bit-none}
-use Rattle.stations.proofs.Laws.{eqb-iff}
+use Rattle.stations.proofs.Bit.{bit_one, bit-none}
+use Rattle.stations.proofs.Laws.{eqb_iff}
 use Rattle.stations.proofs.one_in.Statement.{statement}
 use Rattle.stations.proofs.one_in.Tie as tie
 
@@ -24,7 +24,7 @@ returns : tie.Need-returns
 returns c = λ k h.
     let j : ℕ = c.before.args.j in
     let i : ℕ = c.before.args.i in
-    ap (λ (w : ℕ). bit w k) (shifted (j % 64) (omega arith)) ∙ bit-one (j % 64) k ∙ eqb-iff k (j % 64) (i * 64 + k) j (λ e. omega arith) (λ e. omega arith)
+    ap (λ (w : ℕ). bit w k) (shifted (j % 64) (omega arith)) ∙ bit_one (j % 64) k ∙ eqb_iff k (j % 64) (i * 64 + k) j (λ e. omega arith) (λ e. omega arith)
 
 returns-2 : tie.Need-returns-2
 returns-2 c = λ k h. bit-none k ∙ sym (ne_eqb (c.before.args.i * 64 + k) c.before.args.j (λ e. c.if1.false (omega arith)))

@@ -1,13 +1,13 @@
 -- `touch::island` meets its contract.
 use mathlib.Core.Path.{refl, sym, ◌∙◌, subst}
 use borrow.Author.Rules.{rules}
-use borrow.Author.Tests.{not-true, not-false}
-use Rattle.stations.specs.Sets.{◌is-in◌, size, ◌without◌}
+use borrow.Author.Tests.{not_true, not-false}
+use Rattle.stations.specs.Sets.{◌is_in◌, size, ◌without◌}
 use Rattle.stations.specs.Words.{members}
 use Rattle.stations.specs.Answers.{FirstOf}
-use Rattle.stations.proofs.Laws.{has-small}
+use Rattle.stations.proofs.Laws.{has_small}
 use Rattle.mesh.specs.Table.{linked}
-use Rattle.touch.proofs.Islands.{Grown, grown-one, grown-inside, island-none, wave-more, wave-fewer, wave-end}
+use Rattle.touch.proofs.Islands.{Grown, grown_one, grown_inside, island_none, wave_more, wave_fewer, wave_end}
 use Rattle.touch.proofs.island.Statement.{statement}
 use Rattle.touch.proofs.island.Tie as tie
 
@@ -18,7 +18,7 @@ abbrev decreases-loop : tie.decreases-loop
 decreases-loop table within start reached₀ front₀ reached front = size 256 (members within without members reached)
 
 -- the start is in the set
-inside : (c : tie.Else1 invariant-loop decreases-loop) → c.before.before.before.args.start is-in members c.before.before.before.args.within
+inside : (c : tie.Else1 invariant-loop decreases-loop) → c.before.before.before.args.start is_in members c.before.before.before.args.within
 inside c = sym c.before.has.ensures ∙ not-false _ c.if1.false
 
 has-requires : tie.Need-has-requires invariant-loop decreases-loop
@@ -28,19 +28,19 @@ empty-requires : tie.Need-empty-requires invariant-loop decreases-loop
 empty-requires c κs = search rules
 
 returns : tie.Need-returns invariant-loop decreases-loop
-returns c = island-none _ _ _ _ (sym c.before.before.has.ensures ∙ not-true _ c.before.if1.true) c.empty.ensures
+returns c = island_none _ _ _ _ (sym c.before.before.has.ensures ∙ not_true _ c.before.if1.true) c.empty.ensures
 
 one-requires : tie.Need-one-requires invariant-loop decreases-loop
-one-requires c κs = has-small _ _ refl (inside c)
+one-requires c κs = has_small _ _ refl (inside c)
 
 one-requires-2 : tie.Need-one-requires-2 invariant-loop decreases-loop
-one-requires-2 c κs = has-small _ _ refl (inside c.before)
+one-requires-2 c κs = has_small _ _ refl (inside c.before)
 
 loop-holds : tie.Need-loop-init invariant-loop decreases-loop
-loop-holds c = grown-one _ _ _ _ _ (inside c.before.before) c.before.one.ensures c.one2.ensures
+loop-holds c = grown_one _ _ _ _ _ (inside c.before.before) c.before.one.ensures c.one2.ensures
 
 spread-requires : tie.Need-spread-requires invariant-loop decreases-loop
-spread-requires c κs = λ j e. c.before.before.before.before.before.before.requires j (grown-inside c.loop.invariant j e)
+spread-requires c κs = λ j e. c.before.before.before.before.before.before.requires j (grown_inside c.loop.invariant j e)
 
 cut-requires : tie.Need-cut-requires invariant-loop decreases-loop
 cut-requires c κs = search rules
@@ -62,7 +62,7 @@ loop-less c =
     let m = c.before.before.before.before in
     let b = m.before.before.before in
     let g = b.before.before.before.before.before.before.args in
-    wave-fewer (linked g.table.now) (members g.within) g.start (members b.loop.reached) (members b.loop.front) (members m.before.before.spread.result) (members m.minus.result) (members c.join.result)
+    wave_fewer (linked g.table.now) (members g.within) g.start (members b.loop.reached) (members b.loop.front) (members m.before.before.spread.result) (members m.minus.result) (members c.join.result)
     b.loop.invariant m.before.before.spread.ensures (λ k. simp (m.minus.ensures, m.before.cut.ensures)) c.join.ensures
     c.before.enum_told.given.0.0 (subst (FirstOf (members m.minus.result)) c.before.enum_told.given.1 c.before.before.before.first.ensures)
 
@@ -71,7 +71,7 @@ loop-again c =
     let m = c.before.before.before.before in
     let b = m.before.before.before in
     let g = b.before.before.before.before.before.before.args in
-    wave-more (linked g.table.now) (members g.within) g.start (members b.loop.reached) (members b.loop.front) (members m.before.before.spread.result) (members m.minus.result) (members c.join.result)
+    wave_more (linked g.table.now) (members g.within) g.start (members b.loop.reached) (members b.loop.front) (members m.before.before.spread.result) (members m.minus.result) (members c.join.result)
     b.loop.invariant m.before.before.spread.ensures (λ k. simp (m.minus.ensures, m.before.cut.ensures)) c.join.ensures
 
 enum-told-2 : tie.Need-enum-told-2 invariant-loop decreases-loop
@@ -82,7 +82,7 @@ returns-2 c =
     let m = c.before.before.before in
     let b = m.before.before.before in
     let g = b.before.before.before.before.before.before.args in
-    wave-end (linked g.table.now) (members g.within) g.start (members b.loop.reached) (members b.loop.front) (members m.before.before.spread.result) (members m.minus.result)
+    wave_end (linked g.table.now) (members g.within) g.start (members b.loop.reached) (members b.loop.front) (members m.before.before.spread.result) (members m.minus.result)
     b.loop.invariant m.before.before.spread.ensures (λ k. simp (m.minus.ensures, m.before.cut.ensures))
     (subst (FirstOf (members m.minus.result)) c.enum-told2.given.1 c.before.before.first.ensures)
 

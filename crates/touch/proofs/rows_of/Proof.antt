@@ -4,8 +4,8 @@ use borrow.Author.Rules.{rules}
 use lib.Count.{count_trailing_zeros}
 use Rattle.stations.specs.Words.{members}
 use Rattle.mesh.specs.Table.{linked}
-use Rattle.touch.proofs.Rows.{Taken, taken_none, taken-all, taken_more}
-use Rattle.stations.proofs.Walk.{walk-small, walk_here, walk-less}
+use Rattle.touch.proofs.Rows.{Taken, taken_none, taken_all, taken_more}
+use Rattle.stations.proofs.Walk.{walk_small, walk_here, walk_less}
 use Rattle.touch.proofs.rows_of.Statement.{statement}
 use Rattle.touch.proofs.rows_of.Tie as tie
 
@@ -33,7 +33,7 @@ of-row-requires c κs =
     let z = c.before.loop-test.true in
     omega (
       arith,
-      l.before.before.before.requires.1 (count_trailing_zeros 64 l.loop.x) (walk-small l.loop.invariant.walk z) (walk_here l.loop.invariant.walk z),
+      l.before.before.before.requires.1 (count_trailing_zeros 64 l.loop.x) (walk_small l.loop.invariant.walk z) (walk_here l.loop.invariant.walk z),
       c.low_bit.ensures.0,
     )
 
@@ -44,13 +44,13 @@ sub-x : tie.Need-overflow-sub-x invariant-loop decreases-loop
 sub-x c = search rules
 
 loop-less : tie.Need-loop-smaller invariant-loop decreases-loop
-loop-less c = walk-less c.before.before.before.before.loop.invariant.walk c.before.before.before.loop-test.true
+loop-less c = walk_less c.before.before.before.before.loop.invariant.walk c.before.before.before.loop-test.true
 
 loop-again : tie.Need-loop-preserved invariant-loop decreases-loop
 loop-again c = taken_more _ _ _ _ _ c.before.before.before.before.loop.invariant c.before.before.before.loop-test.true _ (λ k. simp (c.join.ensures, c.before.of_row.ensures, c.before.before.low_bit.ensures.0))
 
 returns : tie.Need-returns invariant-loop decreases-loop
-returns c = taken-all _ _ _ _ _ c.before.loop.invariant c.loop-test.false
+returns c = taken_all _ _ _ _ _ c.before.loop.invariant c.loop-test.false
 
 pub rows-of-spec : {M : Type 1} → statement M
 rows-of-spec =

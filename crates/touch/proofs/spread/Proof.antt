@@ -5,7 +5,7 @@ use native.Mathlib.Omega.{arith}
 use lib.ListN.{get_or}
 use Rattle.stations.specs.Words.{words}
 use Rattle.touch.specs.Reach.{FitsWord}
-use Rattle.touch.proofs.Rows.{spread-four, fits_word}
+use Rattle.touch.proofs.Rows.{spread_four, fits_word}
 use borrow.Author.Rules.{rules}
 use Rattle.touch.proofs.spread.Statement.{statement}
 use Rattle.touch.proofs.spread.Tie as tie
@@ -39,7 +39,7 @@ returns : tie.Need-returns
 returns c =
     let d = c.before.before.before in
     let f = d.before.before.before.before.before.args.from in
-    spread-four f.a f.b f.c f.d _ _ _ _ _ _ d.before.before.before.rows_of_lem.ensures d.before.before.rows-of2.ensures d.before.rows-of3.ensures d.rows-of4.ensures
+    spread_four f.a f.b f.c f.d _ _ _ _ _ _ d.before.before.before.rows_of_lem.ensures d.before.before.rows-of2.ensures d.before.rows-of3.ensures d.rows-of4.ensures
     (λ k. simp (c.join3.ensures, c.before.join2.ensures, c.before.before.join.ensures))
 
 pub spread-spec : {M : Type 1} → statement M

@@ -10,7 +10,7 @@ use Rattle.stations.specs.declared.StationSet.{StationSet}
 use Rattle.mesh.specs.Table.{linked}
 use Rattle.search.specs.Losses.{every, Safe}
 use Rattle.pairs.proofs.Turns.{size_less}
-use Rattle.verdicts.proofs.Taking.{Takes, take-begin, take-trial, take_in, take_out, take-stuck, take-end}
+use Rattle.verdicts.proofs.Taking.{Takes, take_begin, take_trial, take_in, take_out, take_stuck, take_end}
 use Rattle.verdicts.proofs.first_weak.Statement.{statement}
 use Rattle.verdicts.proofs.first_weak.Tie as tie
 
@@ -51,7 +51,7 @@ size-requires c κs = tt
 loop-holds : tie.Need-loop-init invariant-loop decreases-loop
 loop-holds c =
     let s = c.before.before.before in
-    take-begin s.args.table.now s.args.p s.args.loss c.before.empty.result c.size.result s.requires c.size.ensures c.before.empty.ensures
+    take_begin s.args.table.now s.args.p s.args.loss c.before.empty.result c.size.result s.requires c.size.ensures c.before.empty.ensures
 
 first-requires : tie.Need-first-requires invariant-loop decreases-loop
 first-requires c κs = tt
@@ -62,7 +62,7 @@ enum-known-f c = search rules
 lead-requires : tie.Need-lead-requires invariant-loop decreases-loop
 lead-requires c κs =
     let l = at c in
-    take-trial (start l).args.table.now (start l).args.p l.before.size.result l.loop.taken l.loop.witness l.loop.rest l.loop.left l.loop.inv (j c) (least c) (start l).pre.piece (safe l)
+    take_trial (start l).args.table.now (start l).args.p l.before.size.result l.loop.taken l.loop.witness l.loop.rest l.loop.left l.loop.inv (j c) (least c) (start l).pre.piece (safe l)
 
 has-requires : tie.Need-has-requires invariant-loop decreases-loop
 has-requires c κs = tt
@@ -107,13 +107,13 @@ returns : tie.Need-returns invariant-loop decreases-loop
 returns c =
     let m = c.before.before in
     let l = m.before.before in
-    absurd (take-stuck (start l).args.table.now (start l).args.p l.before.size.result l.loop.taken l.loop.witness l.loop.rest l.loop.left l.loop.invariant m.before.loop-test.true
+    absurd (take_stuck (start l).args.table.now (start l).args.p l.before.size.result l.loop.taken l.loop.witness l.loop.rest l.loop.left l.loop.invariant m.before.loop-test.true
     (subst (FirstOf (members l.loop.rest)) c.enum_told.given.1 m.first.ensures))
 
 returns-2 : tie.Need-returns-2 invariant-loop decreases-loop
 returns-2 c =
     let l = c.before in
-    λ k h. take-end (start l).args.table.now (start l).args.p l.before.size.result l.loop.taken l.loop.witness l.loop.rest l.loop.left l.loop.invariant c.loop-test.false (safe l)
+    λ k h. take_end (start l).args.table.now (start l).args.p l.before.size.result l.loop.taken l.loop.witness l.loop.rest l.loop.left l.loop.invariant c.loop-test.false (safe l)
     k (subst (λ (i : ℕ). i < k) (sym l.before.size.ensures) h)
 
 pub first-weak-spec : {M : Type 1} → statement M

@@ -3,7 +3,7 @@ use Prim.Native.Nat.{◌<◌}
 use native.Mathlib.Omega.{arith}
 use Rattle.stations.specs.Sets.{size}
 use Rattle.stations.specs.Words.{members}
-use Rattle.search.proofs.Reply.{safe-holds, pair-loss, weak-plain}
+use Rattle.search.proofs.Reply.{safe_holds, pair_loss, weak_plain}
 use Rattle.pairs.specs.declared.Settled.{Settled}
 use Rattle.pairs.specs.Piece.{WeakOf}
 use Rattle.pairs.proofs.Starts.{below}
@@ -50,13 +50,13 @@ module _ (c : tie.After-weak) where
 returns-2 : tie.Need-returns-2
 returns-2 c =
     let m = c.before.before.before in
-    (above m, weak-plain (pair-loss (subst (told m) c.before.r.given.1 m.weak.ensures)))
+    (above m, weak_plain (pair_loss (subst (told m) c.before.r.given.1 m.weak.ensures)))
 
 -- src/lib.rt:113:1
 returns-3 : tie.Need-returns-3
 returns-3 c =
     let m = c.before.before in
-    safe-holds (below (start m).args.p) (above m) (subst (told m) c.enum_told.given.1 m.weak.ensures)
+    safe_holds (below (start m).args.p) (above m) (subst (told m) c.enum_told.given.1 m.weak.ensures)
 
 pub judge-spec : {M : Type 1} → statement M
 judge-spec =

@@ -4,7 +4,7 @@ use native.Mathlib.Omega.{arith}
 use borrow.Author.Rules.{rules}
 use Rattle.pairs.specs.Piece.{WeakOf}
 use Rattle.pairs.specs.declared.Settled.{Settled}
-use Rattle.verdicts.proofs.Lowering.{Lower, lower-turn, lower-end, lower-zero}
+use Rattle.verdicts.proofs.Lowering.{Lower, lower_turn, lower_end, lower_zero}
 use Rattle.verdicts.proofs.smallest.Statement.{statement}
 use Rattle.verdicts.proofs.smallest.Tie as tie
 
@@ -41,7 +41,7 @@ loop-again c =
     let m = c.before.before.before.before in
     let l = m.before.before in
     let s = l.before.before in
-    lower-turn s.args.table.now s.args.p s.args.k l.loop.level l.loop.best l.loop.invariant _ _ c.before.before.r.given.0.1.1.0 _
+    lower_turn s.args.table.now s.args.p s.args.k l.loop.level l.loop.best l.loop.invariant _ _ c.before.before.r.given.0.1.1.0 _
     (subst (told m) c.before.before.r.given.1 m.weak.ensures) c.size.ensures
 
 enum_told : tie.Need-enum-told invariant-loop decreases-loop
@@ -52,13 +52,13 @@ returns c =
     let m = c.before.before in
     let l = m.before.before in
     let s = l.before.before in
-    lower-end s.args.table.now s.args.p s.args.k l.loop.level l.loop.best l.loop.invariant (subst (told m) c.enum_told.given.1 m.weak.ensures)
+    lower_end s.args.table.now s.args.p s.args.k l.loop.level l.loop.best l.loop.invariant (subst (told m) c.enum_told.given.1 m.weak.ensures)
 
 returns-2 : tie.Need-returns-2 invariant-loop decreases-loop
 returns-2 c =
     let l = c.before in
     let s = l.before.before in
-    lower-zero s.args.table.now s.args.p s.args.k l.loop.level l.loop.best l.loop.invariant c.loop-test.false
+    lower_zero s.args.table.now s.args.p s.args.k l.loop.level l.loop.best l.loop.invariant c.loop-test.false
 
 pub smallest-spec : {M : Type 1} → statement M
 smallest-spec =

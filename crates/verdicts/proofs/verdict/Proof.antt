@@ -5,11 +5,11 @@ use native.Mathlib.Omega.{arith}
 use borrow.Author.Rules.{rules}
 use Rattle.stations.specs.Sets.{size}
 use Rattle.stations.specs.Words.{members}
-use Rattle.search.proofs.Reply.{safe-holds}
+use Rattle.search.proofs.Reply.{safe_holds}
 use Rattle.verdicts.specs.Verdicts.{SmallestOf}
 use Rattle.pairs.specs.declared.Settled.{Settled}
 use Rattle.pairs.proofs.Starts.{below}
-use Rattle.verdicts.proofs.Lowering.{smallest-least}
+use Rattle.verdicts.proofs.Lowering.{smallest_least}
 use Rattle.verdicts.proofs.verdict.Statement.{statement}
 use Rattle.verdicts.proofs.verdict.Tie as tie
 
@@ -40,7 +40,7 @@ first-weak-requires : tie.Need-first-weak-requires
 first-weak-requires c κs =
     let m = c.before.before.before in
     let s = start m in
-    smallest-least s.args.table.now s.args.p s.args.k _ _ c.before.r.given.0.1.1.0 s.pre (subst (told m) c.before.r.given.1 m.smallest.ensures)
+    smallest_least s.args.table.now s.args.p s.args.k _ _ c.before.r.given.0.1.1.0 s.pre (subst (told m) c.before.r.given.1 m.smallest.ensures)
 
 enum_told : tie.Need-enum-told
 enum_told c = search rules
@@ -54,7 +54,7 @@ returns-2 c =
 returns-3 : tie.Need-returns-3
 returns-3 c =
     let m = c.before.before in
-    safe-holds (below (start m).args.p) (above m) (subst (told m) c.enum_told.given.1 m.smallest.ensures)
+    safe_holds (below (start m).args.p) (above m) (subst (told m) c.enum_told.given.1 m.smallest.ensures)
 
 pub verdict-spec : {M : Type 1} → statement M
 verdict-spec =

@@ -1,5 +1,5 @@
 use mathlib.Core.Path.{sym}
-use Rattle.card.proofs.Card.{number-first}
+use Rattle.card.proofs.Card.{number_first}
 use borrow.Author.Rules.{rules}
 use Rattle.card.proofs.Tested.then.Statement.{statement}
 use Rattle.card.proofs.Tested.then.Tie as tie
@@ -20,7 +20,7 @@ returns c = search rules
 
 -- src/lib.rt:40:5
 returns-2 : tie.Need-returns-2
-returns-2 c = rw c.before.first.given.1 (sym (number-first c.before.first.given.0.0 _))
+returns-2 c = rw c.before.first.given.1 (sym (number_first c.before.first.given.0.0 _))
 
 pub then-spec : {M : Type 1} → statement M
 then-spec = tie.close (tie.spec enum_told enum-known-first returns returns-2)

@@ -5,7 +5,7 @@ use native.Mathlib.Omega.{arith}
 use lib.ListN.{length}
 use borrow.Author.Rules.{rules}
 use Rattle.flow.specs.Search.{Idle}
-use Rattle.flow.proofs.Marks.{idle-none, idle-more}
+use Rattle.flow.proofs.Marks.{idle_none, idle_more}
 use Rattle.flow.proofs.steps.idle.Statement.{statement}
 use Rattle.flow.proofs.steps.idle.Tie as tie
 use Rattle.flow.proofs.steps.idle.Reads as reads
@@ -18,7 +18,7 @@ abbrev decreases-loop : tie.decreases-loop
 decreases-loop hold₀ i₀ hold i = 256 - i
 
 loop-holds : tie.Need-loop-init invariant-loop decreases-loop
-loop-holds c = (search rules, search rules, idle-none _ (search rules))
+loop-holds c = (search rules, search rules, idle_none _ (search rules))
 
 cast-hold : tie.Need-overflow-cast-hold invariant-loop decreases-loop
 cast-hold c = search rules
@@ -33,7 +33,7 @@ loop-less : tie.Need-loop-smaller invariant-loop decreases-loop
 loop-less c = search rules
 
 loop-again : tie.Need-loop-preserved invariant-loop decreases-loop
-loop-again c = (search rules, search rules, idle-more _ _ (search rules) c.before.loop.invariant.2)
+loop-again c = (search rules, search rules, idle_more _ _ (search rules) c.before.loop.invariant.2)
 
 returns : tie.Need-returns invariant-loop decreases-loop
 returns c = let e : c.before.loop.i ≡ 256 = omega arith in rw e at c.before.loop.invariant.2

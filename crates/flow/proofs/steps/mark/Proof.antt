@@ -1,5 +1,5 @@
 -- `flow::steps::mark` meets its contract.
-use Rattle.flow.proofs.Marks.{marked-four}
+use Rattle.flow.proofs.Marks.{marked_four}
 use borrow.Author.Rules.{rules}
 use Rattle.flow.proofs.steps.mark.Statement.{statement}
 use Rattle.flow.proofs.steps.mark.Tie as tie
@@ -20,7 +20,7 @@ mark-in-requires-4 : tie.Need-mark-in-requires-4
 mark-in-requires-4 c κs = search rules
 
 returns : tie.Need-returns
-returns c = marked-four c.before.before.before.before.before.before.mark-in.ensures c.before.before.before.before.mark-in2.ensures c.before.before.mark-in3.ensures c.mark-in4.ensures
+returns c = marked_four c.before.before.before.before.before.before.mark-in.ensures c.before.before.before.before.mark-in2.ensures c.before.before.mark-in3.ensures c.mark-in4.ensures
 
 pub mark_spec : {M : Type 1} → statement M
 mark_spec =

@@ -8,7 +8,7 @@ use Rattle.stations.specs.Sets.{◌without◌, ◌cut◌, size}
 use Rattle.stations.specs.Words.{has, members}
 use Rattle.linkage.specs.Linkage.{undone}
 use Rattle.flow.specs.Search.{SomeOf, Setting}
-use Rattle.flow.proofs.Sweeping.{Going, going-begin, going-inner, going-came, going-turn, going-fewer, going-stuck}
+use Rattle.flow.proofs.Sweeping.{Going, going_begin, going_inner, going_came, going_turn, going_fewer, going_stuck}
 use Rattle.flow.proofs.steps.search.Statement.{statement}
 use Rattle.flow.proofs.steps.search.Tie as tie
 use Rattle.flow.proofs.steps.search.Reads as reads
@@ -36,7 +36,7 @@ setting : (m : tie.After-minus invariant-loop decreases-loop)
     → Setting m.before.before.before.before.args.table.now m.before.before.before.before.args.inner m.before.before.before.before.args.ends m.before.before.before.before.args.hold.now m.before.before.cut.result m.minus.result
 setting m =
     let s = m.before.before.before.before in
-    record { starts = s.args.starts; first = s.args.first; number = s.requires.2.0; held = s.requires.2.1; into-law = m.before.before.cut.ensures; todo-law = m.minus.ensures }
+    record { starts = s.args.starts; first = s.args.first; number = s.requires.2.0; held = s.requires.2.1; into_law = m.before.before.cut.ensures; todo_law = m.minus.ensures }
 
 -- the station that is taken
 abbrev taken : tie.After-known-told invariant-loop decreases-loop → ℕ
@@ -49,7 +49,7 @@ inner : (c : tie.After-wide invariant-loop decreases-loop) → members c.before.
 inner c =
     let k = c.before.before in
     let l = k.before.before.before.before in
-    going-inner (setting l.before) (l.loop.invariant.2 (setting l.before)) (taken k) (chosen k).1 c.wide.result c.wide.ensures.0 c.wide.ensures.1
+    going_inner (setting l.before) (l.loop.invariant.2 (setting l.before)) (taken k) (chosen k).1 c.wide.result c.wide.ensures.0 c.wide.ensures.1
 
 cut-requires : tie.Need-cut-requires invariant-loop decreases-loop
 cut-requires c κs = search rules
@@ -61,7 +61,7 @@ minus-requires : tie.Need-minus-requires invariant-loop decreases-loop
 minus-requires c κs = search rules
 
 loop-holds : tie.Need-loop-init invariant-loop decreases-loop
-loop-holds c = (c.before.before.before.before.requires.1, c.before.before.before.before.requires.1, λ Z. going-begin Z _ _ c.before.empty.ensures)
+loop-holds c = (c.before.before.before.before.requires.1, c.before.before.before.before.requires.1, λ Z. going_begin Z _ _ c.before.empty.ensures)
 
 choose-requires : tie.Need-choose-requires invariant-loop decreases-loop
 choose-requires c κs = search rules
@@ -87,7 +87,7 @@ returns c =
     let v = c.before.before in
     record {
       whole = l.loop.invariant.1;
-      told = going-came Z (l.loop.invariant.2 Z) (taken k) (chosen k).1 v.wide.result v.wide.ensures.0 v.wide.ensures.1 (sym c.before.has.ensures ∙ c.if1.true);
+      told = going_came Z (l.loop.invariant.2 Z) (taken k) (chosen k).1 v.wide.result v.wide.ensures.0 v.wide.ensures.1 (sym c.before.has.ensures ∙ c.if1.true);
     }
 
 of-row-requires : tie.Need-of-row-requires invariant-loop decreases-loop
@@ -133,7 +133,7 @@ loop-less c =
     let k = v.before.before in
     let l = k.before.before.before.before in
     let Z = setting l.before in
-    going-fewer Z (l.loop.invariant.2 Z) (taken k) (chosen k).1 v.wide.result v.wide.ensures.0 v.wide.ensures.1
+    going_fewer Z (l.loop.invariant.2 Z) (taken k) (chosen k).1 v.wide.result v.wide.ensures.0 v.wide.ensures.1
     _ m.before.before.before.join.result m.before.before.with2.result m.join2.result q.minus2.result
     (λ x. simp (q.minus2.ensures, q.before.cut2.ensures, q.before.before.with.ensures, q.before.before.before.of_row.ensures))
     m.before.before.before.join.ensures m.before.before.with2.ensures (λ x. simp (m.join2.ensures, m.before.without.ensures)) c.mark.ensures
@@ -149,7 +149,7 @@ loop-again c =
     let Z = setting l.before in (
       l.loop.invariant.0,
       c.mark.ensures.whole,
-      λ Z. going-turn Z (l.loop.invariant.2 Z) (taken k) (chosen k).1 v.wide.result v.wide.ensures.0 v.wide.ensures.1
+      λ Z. going_turn Z (l.loop.invariant.2 Z) (taken k) (chosen k).1 v.wide.result v.wide.ensures.0 v.wide.ensures.1
           _ m.before.before.before.join.result m.before.before.with2.result m.join2.result q.minus2.result
           (λ x. simp (q.minus2.ensures, q.before.cut2.ensures, q.before.before.with.ensures, q.before.before.before.of_row.ensures))
           m.before.before.before.join.ensures m.before.before.with2.ensures (λ x. simp (m.join2.ensures, m.before.without.ensures)) c.mark.ensures (sym e.before.has.ensures ∙ e.if1.false),
@@ -168,7 +168,7 @@ returns-2 c =
     let Z = setting l.before in
     record {
       whole = l.loop.invariant.1;
-      told = going-stuck Z (l.loop.invariant.2 Z) (subst (SomeOf (members l.loop.todo)) c.before.enum_told.given.1 c.before.before.before.choose.ensures) c.minus3.result c.minus3.ensures;
+      told = going_stuck Z (l.loop.invariant.2 Z) (subst (SomeOf (members l.loop.todo)) c.before.enum_told.given.1 c.before.before.before.choose.ensures) c.minus3.result c.minus3.ensures;
     }
 
 pub search-spec : {M : Type 1} → statement M

@@ -4,11 +4,11 @@ use mathlib.Core.Path.{◌≡◌, sym, ◌∙◌, subst}
 use Prim.Native.Nat.{ℕ, ◌<◌}
 use lib.ListN.{length, set, length-set}
 use borrow.Author.Rules.{rules}
-use borrow.Author.Tests.{not-true, not-false}
+use borrow.Author.Tests.{not_true, not-false}
 use Rattle.stations.specs.Words.{has, members}
 use Rattle.linkage.specs.Linkage.{steps}
 use Rattle.flow.specs.Search.{at, Start}
-use Rattle.flow.proofs.Way.{Open, way-small, way-begin, way-before, way-again, way-inner, way-done}
+use Rattle.flow.proofs.Way.{Open, way_small, way_begin, way_before, way_again, way_inner, way_done}
 use Rattle.flow.proofs.steps.turn.Statement.{statement}
 use Rattle.flow.proofs.steps.turn.Tie as tie
 use Rattle.flow.proofs.steps.turn.Reads as reads
@@ -24,16 +24,16 @@ decreases-loop hold₀ from starts last h₀ hold h = steps (members starts) (at
 
 -- the hole is at no start
 outside : (c : tie.Then1 invariant-loop decreases-loop) → members c.before.before.before.args.starts c.before.before.loop.h ≡ false
-outside c = sym c.before.has.ensures ∙ not-true _ c.if1.true
+outside c = sym c.before.has.ensures ∙ not_true _ c.if1.true
 
 before : (c : tie.After-wide invariant-loop decreases-loop) → (c.wide.result < 256) × (steps (members c.before.before.before.before.before.args.starts) (at c.before.before.before.before.before.args.from.now) 256 c.wide.result < steps (members c.before.before.before.before.before.args.starts) (at c.before.before.before.before.before.args.from.now) 256 c.before.before.before.before.loop.h)
 before c =
     let l = c.before.before.before.before in
     subst (λ (g : ℕ). (g < 256) × (steps (members l.before.args.starts) (at l.before.args.from.now) 256 g < steps (members l.before.args.starts) (at l.before.args.from.now) 256 l.loop.h)) (sym c.wide.ensures.0)
-    (way-before l.before.requires l.loop.hold l.loop.h l.loop.invariant.0.1 (l.loop.invariant.1 l.before.requires) (outside c.before.before))
+    (way_before l.before.requires l.loop.hold l.loop.h l.loop.invariant.0.1 (l.loop.invariant.1 l.before.requires) (outside c.before.before))
 
 loop-holds : tie.Need-loop-init invariant-loop decreases-loop
-loop-holds c = ((way-small c.requires c.args.last c.requires.came.here, c.requires.whole), λ W. way-begin W)
+loop-holds c = ((way_small c.requires c.args.last c.requires.came.here, c.requires.whole), λ W. way_begin W)
 
 has-requires : tie.Need-has-requires invariant-loop decreases-loop
 has-requires c κs = search rules
@@ -58,7 +58,7 @@ loop-again c =
     let l = c.before.before.before.before.before in (
       ((before c.before).0, length-set l.loop.hold l.loop.h _ ∙ l.loop.invariant.0.1),
       λ W. subst (λ (g : ℕ). Open W (set l.loop.hold l.loop.h (at l.loop.hold g)) g) (sym c.before.wide.ensures.0)
-          (way-again W l.loop.hold l.loop.h l.loop.invariant.0.1 (l.loop.invariant.1 W) (outside c.before.before.before)),
+          (way_again W l.loop.hold l.loop.h l.loop.invariant.0.1 (l.loop.invariant.1 W) (outside c.before.before.before)),
     )
 
 returns : tie.Need-returns invariant-loop decreases-loop
@@ -69,8 +69,8 @@ returns c =
       whole = l.loop.invariant.0.1;
       small = l.loop.invariant.0.0;
       start = m;
-      inner = λ W. way-inner W l.loop.hold l.loop.h l.loop.invariant.0.1 (l.loop.invariant.1 W);
-      linkage = λ W. way-done W l.loop.hold l.loop.h l.loop.invariant.0.1 (l.loop.invariant.1 W) m;
+      inner = λ W. way_inner W l.loop.hold l.loop.h l.loop.invariant.0.1 (l.loop.invariant.1 W);
+      linkage = λ W. way_done W l.loop.hold l.loop.h l.loop.invariant.0.1 (l.loop.invariant.1 W) m;
     }
 
 pub turn_spec : {M : Type 1} → statement M

@@ -1,6 +1,6 @@
 use mathlib.Core.Path.{sym, ap, ◌∙◌}
 use Rattle.holding.specs.declared.Answer.{Answer}
-use Rattle.holding.specs.Reply.{weak-set}
+use Rattle.holding.specs.Reply.{weak_set}
 use borrow.Author.Rules.{rules}
 use Rattle.holding.proofs.Answer.weak_set.Statement.{statement}
 use Rattle.holding.proofs.Answer.weak_set.Tie as tie
@@ -38,19 +38,19 @@ empty-requires-3 c κs = search rules
 
 -- src/lib.rt:47:5
 returns : tie.Need-returns
-returns c = λ x. c.empty.ensures x ∙ ap (λ (a : Answer). weak-set a x) (sym c.before.enum_told.given.1)
+returns c = λ x. c.empty.ensures x ∙ ap (λ (a : Answer). weak_set a x) (sym c.before.enum_told.given.1)
 
 -- src/lib.rt:47:5
 returns-2 : tie.Need-returns-2
-returns-2 c = λ x. c.empty2.ensures x ∙ ap (λ (a : Answer). weak-set a x) (sym c.before.enum-told2.given.1)
+returns-2 c = λ x. c.empty2.ensures x ∙ ap (λ (a : Answer). weak_set a x) (sym c.before.enum-told2.given.1)
 
 -- src/lib.rt:47:5
 returns-3 : tie.Need-returns-3
-returns-3 c = λ x. ap (λ (a : Answer). weak-set a x) (sym c.before.answer.given.1)
+returns-3 c = λ x. ap (λ (a : Answer). weak_set a x) (sym c.before.answer.given.1)
 
 -- src/lib.rt:47:5
 returns-4 : tie.Need-returns-4
-returns-4 c = λ x. c.empty3.ensures x ∙ ap (λ (a : Answer). weak-set a x) (sym c.before.enum-told3.given.1)
+returns-4 c = λ x. c.empty3.ensures x ∙ ap (λ (a : Answer). weak_set a x) (sym c.before.enum-told3.given.1)
 
 pub weak-set-spec : {M : Type 1} → statement M
 weak-set-spec =

@@ -8,11 +8,11 @@ use Rattle.stations.specs.Sets.{Set, size, ◌without◌}
 use Rattle.stations.specs.Words.{members, words}
 use Rattle.stations.specs.declared.StationSet.{StationSet}
 use Rattle.stations.specs.Answers.{FirstOf, Least}
-use Rattle.stations.proofs.Laws.{has-small}
+use Rattle.stations.proofs.Laws.{has_small}
 use Rattle.mesh.specs.Table.{linked}
 use Rattle.listing.specs.Steps.{Dividing}
-use Rattle.listing.proofs.Lists.{put-set}
-use Rattle.listing.proofs.Parting.{Split, Cutting, cut-none, cut_fits, cut_all, cut-less, cut_small, cut-room, cut-large}
+use Rattle.listing.proofs.Lists.{put_set}
+use Rattle.listing.proofs.Parting.{Split, Cutting, cut_none, cut_fits, cut_all, cut_less, cut_small, cut_room, cut_large}
 use Rattle.listing.proofs.pieces.divide.Statement.{statement}
 use Rattle.listing.proofs.pieces.divide.Tie as tie
 
@@ -46,7 +46,7 @@ module _ (c : tie.After-size invariant-loop decreases-loop) where
 
   splits : Split (linked loop.before.before.before.before.args.table.now) (members loop.before.before.before.before.args.s) (members loop.loop.rest) (members piece) (members c.before.minus2.result)
   splits = record {
-    below = λ x h. has-small (words loop.loop.rest) x refl h;
+    below = λ x h. has_small (words loop.loop.rest) x refl h;
     at = turn.before.f.given.0.0;
     mine = (least turn).mine;
     bound = (least turn).small;
@@ -62,13 +62,13 @@ module _ (c : tie.Then1 invariant-loop decreases-loop) where
   large = omega (arith, c.if1.true, c.before.size.ensures)
 
   room : ((loop c.before).before.before.before.before.args.a + (loop c.before).loop.m) * 4 + 4 ≤ length (loop c.before).loop.list
-  room = cut-room (dividing (loop c.before)) (cutting (loop c.before)) (splits c.before) large
+  room = cut_room (dividing (loop c.before)) (cutting (loop c.before)) (splits c.before) large
 
 minus-requires : tie.Need-minus-requires invariant-loop decreases-loop
 minus-requires c κs = search rules
 
 loop-holds : tie.Need-loop-init invariant-loop decreases-loop
-loop-holds c = λ P d e. cut-none d _ e
+loop-holds c = λ P d e. cut_none d _ e
 
 first-requires : tie.Need-first-requires invariant-loop decreases-loop
 first-requires c κs = search rules
@@ -105,16 +105,16 @@ add-m c =
 loop-less : tie.Need-loop-smaller invariant-loop decreases-loop
 loop-less c =
     let z = c.before.before.before.before.before in
-    cut-less (dividing (loop z)) (cutting (loop z)) (splits z)
+    cut_less (dividing (loop z)) (cutting (loop z)) (splits z)
 
 loop-again : tie.Need-loop-preserved invariant-loop decreases-loop
 loop-again c = λ P d e.
     let t = c.before.before.before.before in
     let z = t.before in
-    cut-large d ((loop z).loop.invariant P d e) (splits z) (large t) _ (put-set (piece z) refl (room t) c.before.before.put-row.ensures)
+    cut_large d ((loop z).loop.invariant P d e) (splits z) (large t) _ (put_set (piece z) refl (room t) c.before.before.put-row.ensures)
 
 loop-less-2 : tie.Need-loop-smaller-2 invariant-loop decreases-loop
-loop-less-2 c = cut-less (dividing (loop c.before)) (cutting (loop c.before)) (splits c.before)
+loop-less-2 c = cut_less (dividing (loop c.before)) (cutting (loop c.before)) (splits c.before)
 
 loop-again-2 : tie.Need-loop-preserved-2 invariant-loop decreases-loop
 loop-again-2 c = λ P d e.

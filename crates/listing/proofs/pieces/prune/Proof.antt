@@ -7,8 +7,8 @@ use Rattle.stations.specs.Words.{members, has, words}
 use Rattle.stations.specs.Answers.{FirstOf, Least}
 use Rattle.mesh.specs.Mesh.{Mesh}
 use Rattle.mesh.specs.Table.{linked, Fits}
-use Rattle.stations.proofs.Laws.{has-small}
-use Rattle.listing.proofs.Trimming.{Trimming, to-do, trim-none, trim-keep, keep-less, trim-out, out-less, trim-round, round-less}
+use Rattle.stations.proofs.Laws.{has_small}
+use Rattle.listing.proofs.Trimming.{Trimming, to_do, trim_none, trim_keep, keep_less, trim_out, out_less, trim_round, round_less}
 use Rattle.listing.proofs.pieces.prune.Statement.{statement}
 use Rattle.listing.proofs.pieces.prune.Tie as tie
 
@@ -16,7 +16,7 @@ abbrev invariant-loop : tie.invariant-loop
 invariant-loop table k left₀ todo₀ again₀ left todo again = Fits table (members left₀) × Mesh (linked table) × Trimming (linked table) k (members left₀) (members left) (members todo)
 
 abbrev decreases-loop : tie.decreases-loop
-decreases-loop table k left₀ todo₀ again₀ left todo again = to-do (members left) (members todo) (members again)
+decreases-loop table k left₀ todo₀ again₀ left todo again = to_do (members left) (members todo) (members again)
 
 least : (c : tie.After-known-told invariant-loop decreases-loop) → Least (members c.before.before.before.before.loop.todo) c.before.f.given.0.0
 least c = subst (FirstOf (members c.before.before.before.before.loop.todo)) c.before.f.given.1 c.before.before.before.first.ensures
@@ -28,7 +28,7 @@ empty-requires : tie.Need-empty-requires invariant-loop decreases-loop
 empty-requires c κs = search rules
 
 loop-holds : tie.Need-loop-init invariant-loop decreases-loop
-loop-holds c = (c.before.before.requires.0, c.before.before.requires.1, trim-none _ _ _)
+loop-holds c = (c.before.before.requires.0, c.before.before.requires.1, trim_none _ _ _)
 
 first-requires : tie.Need-first-requires invariant-loop decreases-loop
 first-requires c κs = search rules
@@ -57,7 +57,7 @@ join-requires c κs = search rules
 loop-less : tie.Need-loop-smaller invariant-loop decreases-loop
 loop-less c =
     let b = c.before.before.before.before.before.before.before in
-    out-less b.before.before.before.before.loop.invariant.2 _ (least b).mine _ _ _ _ (fun_ext c.before.without2.ensures)
+    out_less b.before.before.before.before.loop.invariant.2 _ (least b).mine _ _ _ _ (fun_ext c.before.without2.ensures)
     (fun_ext c.before.before.before.before.without.ensures) (least b).small
 
 loop-again : tie.Need-loop-preserved invariant-loop decreases-loop
@@ -66,7 +66,7 @@ loop-again c =
     let i = b.before.before.before.before.loop.invariant in (
       i.0,
       i.1,
-      trim-out i.2 _ (least b).mine i.1 (members c.before.before.before.before.before.cut.result) _ _ (links c.before.before.before.before.before)
+      trim_out i.2 _ (least b).mine i.1 (members c.before.before.before.before.before.cut.result) _ _ (links c.before.before.before.before.before)
           (omega (arith, c.before.before.if1.true, c.before.before.before.size.ensures)) (fun_ext c.before.without2.ensures)
           (fun_ext c.before.before.before.before.without.ensures),
     )
@@ -74,13 +74,13 @@ loop-again c =
 loop-less-2 : tie.Need-loop-smaller-2 invariant-loop decreases-loop
 loop-less-2 c =
     let b = c.before.before.before.before.before in
-    keep-less b.before.before.before.before.loop.invariant.2 _ (least b).mine _ _ (fun_ext c.before.before.without.ensures) (least b).small
+    keep_less b.before.before.before.before.loop.invariant.2 _ (least b).mine _ _ (fun_ext c.before.before.without.ensures) (least b).small
 
 loop-again-2 : tie.Need-loop-preserved-2 invariant-loop decreases-loop
 loop-again-2 c =
     let b = c.before.before.before.before.before in
     let i = b.before.before.before.before.loop.invariant in
-    (i.0, i.1, trim-keep i.2 _ (least b).mine _ (fun_ext c.before.before.without.ensures))
+    (i.0, i.1, trim_keep i.2 _ (least b).mine _ (fun_ext c.before.before.without.ensures))
 
 enum_told : tie.Need-enum-told invariant-loop decreases-loop
 enum_told c = search rules
@@ -102,14 +102,14 @@ loop-less-3 c =
     let e = c.before.before in
     let l = e.before.before.before.before.before.loop in
     let s = e.before.cut2.result in
-    round-less l.invariant.2 (members l.again) (members s) (fun_ext e.before.cut2.ensures) _ (fun_ext c.empty2.ensures) (λ x h. has-small (words s) x refl h)
+    round_less l.invariant.2 (members l.again) (members s) (fun_ext e.before.cut2.ensures) _ (fun_ext c.empty2.ensures) (λ x h. has_small (words s) x refl h)
     (e.is-empty.ensures.somebody c.before.if2.false)
 
 loop-again-3 : tie.Need-loop-preserved-3 invariant-loop decreases-loop
 loop-again-3 c =
     let e = c.before.before in
     let l = e.before.before.before.before.before.loop in
-    (l.invariant.0, l.invariant.1, trim-round l.invariant.2 (members l.again) _ (fun_ext e.before.cut2.ensures))
+    (l.invariant.0, l.invariant.1, trim_round l.invariant.2 (members l.again) _ (fun_ext e.before.cut2.ensures))
 
 pub prune-spec : {M : Type 1} → statement M
 prune-spec =

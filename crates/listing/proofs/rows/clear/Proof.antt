@@ -2,7 +2,7 @@
 use mathlib.Core.Path.{◌≡◌}
 use Prim.Native.Nat.{◌-◌, ◌*◌, ◌≤◌}
 use borrow.Author.Rules.{rules}
-use Rattle.listing.proofs.Lists.{Clearing, clear_none, clear-one, clear-all}
+use Rattle.listing.proofs.Lists.{Clearing, clear_none, clear_one, clear_all}
 use Rattle.listing.proofs.rows.clear.Statement.{statement}
 use Rattle.listing.proofs.rows.clear.Tie as tie
 
@@ -34,13 +34,13 @@ loop-less : tie.Need-loop-smaller invariant-loop decreases-loop
 loop-less c = search rules
 
 loop-again : tie.Need-loop-preserved invariant-loop decreases-loop
-loop-again c = (search rules, search rules, search rules, clear-one c.before.loop.invariant.3 (search rules) (search rules))
+loop-again c = (search rules, search rules, search rules, clear_one c.before.loop.invariant.3 (search rules) (search rules))
 
 same_length : tie.Need-same-length invariant-loop decreases-loop
 same_length c = search rules
 
 returns : tie.Need-returns invariant-loop decreases-loop
-returns c = clear-all _ c.before.loop.invariant.3 (search rules) (search rules)
+returns c = clear_all _ c.before.loop.invariant.3 (search rules) (search rules)
 
 pub clear_spec : {M : Type 1} → statement M
 clear_spec =

@@ -2,7 +2,7 @@
 use mathlib.Core.Path.{ap}
 use borrow.Author.Rules.{rules}
 use Rattle.stations.specs.Words.{has}
-use Rattle.listing.proofs.Lists.{put-set}
+use Rattle.listing.proofs.Lists.{put_set}
 use Rattle.listing.proofs.rows.fill.Statement.{statement}
 use Rattle.listing.proofs.rows.fill.Tie as tie
 
@@ -20,7 +20,7 @@ same_length c = search rules
 
 returns : tie.Need-returns
 returns c =
-    (search rules, put-set c.before.before.before.before.of_row.result (ap has c.before.before.before.before.of_row.ensures) (search rules) c.before.before.put-row.ensures)
+    (search rules, put_set c.before.before.before.before.of_row.result (ap has c.before.before.before.before.of_row.ensures) (search rules) c.before.before.put-row.ensures)
 
 pub fill_spec : {M : Type 1} → statement M
 fill_spec = tie.close (tie.spec sub-last of-row-requires put-row-requires same_length returns)

@@ -5,8 +5,8 @@ use native.Mathlib.Omega.{arith}
 use borrow.Author.Rules.{rules}
 use Rattle.stations.specs.Words.{has, members}
 use Rattle.listing.specs.Rows.{Unsorted}
-use Rattle.listing.proofs.Lists.{put-set}
-use Rattle.listing.proofs.Sorting.{Shifting, shift_none, shift_one, shift-stop, inserted}
+use Rattle.listing.proofs.Lists.{put_set}
+use Rattle.listing.proofs.Sorting.{Shifting, shift_none, shift_one, shift_stop, inserted}
 use Rattle.listing.proofs.rows.insert.Statement.{statement}
 use Rattle.listing.proofs.rows.insert.Tie as tie
 
@@ -31,7 +31,7 @@ same_length c = search rules
 returns : tie.Need-returns invariant-loop decreases-loop
 returns c =
     let b = c.before.before.before.before.before in
-    inserted b.loop.invariant.1 b.loop.invariant.0 _ (put-set b.before.of_row.result refl (search rules) c.before.before.put-row.ensures) (inl c.before.before.before.before.if1.true)
+    inserted b.loop.invariant.1 b.loop.invariant.0 _ (put_set b.before.of_row.result refl (search rules) c.before.before.put-row.ensures) (inl c.before.before.before.before.if1.true)
 
 sub-of-row : tie.Need-overflow-sub-of-row invariant-loop decreases-loop
 sub-of-row c = search rules
@@ -52,7 +52,7 @@ returns-2 : tie.Need-returns-2 invariant-loop decreases-loop
 returns-2 c =
     let k = c.before.before.before.before.before in
     let b = k.before.before.before.before in
-    inserted b.loop.invariant.1 b.loop.invariant.0 _ (put-set b.before.of_row.result refl (search rules) c.before.before.put-row2.ensures) (inr (shift-stop b.loop.invariant.1 b.loop.invariant.0 _ k.before.before.before.if1.false (ap has k.before.of-row2.ensures) (k.before2.ensures.before c.before.before.before.before.if2.true)))
+    inserted b.loop.invariant.1 b.loop.invariant.0 _ (put_set b.before.of_row.result refl (search rules) c.before.before.put-row2.ensures) (inr (shift_stop b.loop.invariant.1 b.loop.invariant.0 _ k.before.before.before.if1.false (ap has k.before.of-row2.ensures) (k.before2.ensures.before c.before.before.before.before.if2.true)))
 
 put-row-requires-3 : tie.Need-put-row-requires-3 invariant-loop decreases-loop
 put-row-requires-3 c κs = omega (arith, c.before.before.before.before.before.before.loop.invariant.0.room, c.before.before.before.before.before.before.loop.invariant.1.upto, c.before.before.before.before.before.before.loop.invariant.1.kept.long)
@@ -67,7 +67,7 @@ loop-again : tie.Need-loop-preserved invariant-loop decreases-loop
 loop-again c =
     let k = c.before.before.before.before.before in
     let b = k.before.before.before.before in
-    (b.loop.invariant.0, shift_one b.loop.invariant.1 b.loop.invariant.0 _ _ k.before.before.before.if1.false (ap has k.before.of-row2.ensures) (k.before2.ensures.after c.before.before.before.before.if2.false) (put-set k.before.of-row2.result refl (search rules) c.before.before.put-row3.ensures))
+    (b.loop.invariant.0, shift_one b.loop.invariant.1 b.loop.invariant.0 _ _ k.before.before.before.if1.false (ap has k.before.of-row2.ensures) (k.before2.ensures.after c.before.before.before.before.if2.false) (put_set k.before.of-row2.result refl (search rules) c.before.before.put-row3.ensures))
 
 pub insert-spec : {M : Type 1} → statement M
 insert-spec =

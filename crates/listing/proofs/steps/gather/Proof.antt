@@ -4,7 +4,7 @@ use Rattle.stations.specs.Sets.{Set}
 use Rattle.listing.specs.List.{set_at}
 use Rattle.listing.specs.Rows.{Kept}
 use Rattle.listing.specs.Steps.{State, above}
-use Rattle.listing.proofs.Lists.{kept-none, kept_more}
+use Rattle.listing.proofs.Lists.{kept_none, kept_more}
 use Rattle.listing.proofs.Turning.{all_done}
 use Rattle.listing.proofs.steps.gather.Statement.{statement}
 use Rattle.listing.proofs.steps.gather.Tie as tie
@@ -16,7 +16,7 @@ abbrev decreases-loop : tie.decreases-loop
 decreases-loop table k list₀ g₀ c₀ list g c = above k (set_at list) g c
 
 loop-holds : tie.Need-loop-init invariant-loop decreases-loop
-loop-holds c = λ w D s. (s, kept-none _ _)
+loop-holds c = λ w D s. (s, kept_none _ _)
 
 turn-requires : tie.Need-turn-requires invariant-loop decreases-loop
 turn-requires c κs =

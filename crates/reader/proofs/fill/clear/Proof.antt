@@ -3,7 +3,7 @@ use mathlib.Core.Path.{◌≡◌, ◌∙◌}
 use Prim.Native.Nat.{ℕ, ◌≤◌, ◌<◌, ◌-◌}
 use native.Mathlib.Omega.{arith}
 use lib.ListN.{length, get_or, length-set}
-use Rattle.reader.proofs.Filling.{zeros-more, zeros-all}
+use Rattle.reader.proofs.Filling.{zeros_more, zeros_all}
 use Rattle.reader.proofs.fill.clear.Statement.{statement}
 use Rattle.reader.proofs.fill.clear.Tie as tie
 
@@ -34,14 +34,14 @@ loop-less c = search rules
 loop-again : tie.Need-loop-preserved invariant-loop decreases-loop
 loop-again c =
     let s = c.before in
-    (search rules, length-set s.loop.table _ _ ∙ s.loop.invariant.1, zeros-more s.loop.table _ (omega (arith, s.loop.invariant.1, c.loop-test.true)) s.loop.invariant.2)
+    (search rules, length-set s.loop.table _ _ ∙ s.loop.invariant.1, zeros_more s.loop.table _ (omega (arith, s.loop.invariant.1, c.loop-test.true)) s.loop.invariant.2)
 
 same_length : tie.Need-same-length invariant-loop decreases-loop
 same_length c = search rules
 
 returns : tie.Need-returns invariant-loop decreases-loop
 returns c =
-    (c.before.loop.invariant.1, zeros-all c.before.loop.table _ c.before.loop.invariant.1 (λ k l. c.before.loop.invariant.2 k (omega (arith, c.loop-test.false))))
+    (c.before.loop.invariant.1, zeros_all c.before.loop.table _ c.before.loop.invariant.1 (λ k l. c.before.loop.invariant.2 k (omega (arith, c.loop-test.false))))
 
 pub clear_spec : {M : Type 1} → statement M
 clear_spec =

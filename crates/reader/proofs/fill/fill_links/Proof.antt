@@ -4,7 +4,7 @@ use Prim.Native.Nat.{◌≤◌, ◌-◌}
 use native.Mathlib.Omega.{arith}
 use lib.ListN.{length}
 use Rattle.reader.specs.Steps.{Filled}
-use Rattle.reader.proofs.Filling.{ends, filled_more, filled-all}
+use Rattle.reader.proofs.Filling.{ends, filled_more, filled_all}
 use Rattle.reader.proofs.fill.fill_links.Statement.{statement}
 use Rattle.reader.proofs.fill.fill_links.Tie as tie
 
@@ -89,7 +89,7 @@ same_length c = search rules
 
 returns : tie.Need-returns invariant-loop decreases-loop
 returns c =
-    filled-all _ c.before.loop.invariant.2 c.loop-test.false c.before.loop.invariant.0
+    filled_all _ c.before.loop.invariant.2 c.loop-test.false c.before.loop.invariant.0
 
 pub fill-links-spec : {M : Type 1} → statement M
 fill-links-spec =

@@ -4,7 +4,7 @@ use Prim.Native.Nat.{◌≤◌, ◌-◌}
 use native.Mathlib.Omega.{arith}
 use lib.ListN.{length}
 use Rattle.reader.specs.Steps.{SerialsFilled}
-use Rattle.reader.proofs.Filling.{serials-none, serials-more}
+use Rattle.reader.proofs.Filling.{serials_none, serials_more}
 use Rattle.reader.proofs.fill.fill_serials.Statement.{statement}
 use Rattle.reader.proofs.fill.fill_serials.Tie as tie
 
@@ -18,7 +18,7 @@ decreases-loop bytes n serials₀ i₀ serials i =
 
 loop-holds : tie.Need-loop-init invariant-loop decreases-loop
 loop-holds c =
-    (search rules, search rules, serials-none _ _)
+    (search rules, search rules, serials_none _ _)
 
 mul-long-at : tie.Need-overflow-mul-long-at invariant-loop decreases-loop
 mul-long-at c = search rules
@@ -48,7 +48,7 @@ loop-less c = search rules
 loop-again : tie.Need-loop-preserved invariant-loop decreases-loop
 loop-again c =
     let s = c.before.before in
-    let F = serials-more _ s.loop.invariant.2 (omega (arith, s.loop.invariant.1, s.loop.invariant.2.whole, c.before.loop-test.true)) c.long-at.ensures.0 in
+    let F = serials_more _ s.loop.invariant.2 (omega (arith, s.loop.invariant.1, s.loop.invariant.2.whole, c.before.loop-test.true)) c.long-at.ensures.0 in
     (search rules, omega (arith, F.whole, s.loop.invariant.1, s.loop.invariant.2.whole), F)
 
 same_length : tie.Need-same-length invariant-loop decreases-loop

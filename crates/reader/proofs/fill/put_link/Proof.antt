@@ -1,5 +1,5 @@
 use lib.ListN.{length-set}
-use Rattle.reader.proofs.Put.{link-put}
+use Rattle.reader.proofs.Put.{link_put}
 use borrow.Author.Rules.{rules}
 use Rattle.reader.proofs.fill.put_link.Statement.{statement}
 use Rattle.reader.proofs.fill.put_link.Tie as tie
@@ -31,7 +31,7 @@ same_length c = search rules
 returns : tie.Need-returns
 returns c =
     let s = c.before in
-    record { whole = length-set s.args.table.now _ _; law = link-put s.args.table.now s.args.a s.args.b s.requires.0 s.requires.1 }
+    record { whole = length-set s.args.table.now _ _; law = link_put s.args.table.now s.args.a s.args.b s.requires.0 s.requires.1 }
 
 pub put-link-spec : {M : Type 1} → statement M
 put-link-spec =

@@ -6,8 +6,8 @@ use lib.ListN.{length}
 use Rattle.card.specs.Card.{FirstFailing, verdict}
 use Rattle.records.specs.Lines.{MARK}
 use Rattle.records.specs.Survey.{stations, records}
-use Rattle.records.proofs.Order.{failed-above}
-use Rattle.reader.proofs.Tests.{Counted, counts, mark-passed, counts-passed, order-mark, order-counts, order-rest}
+use Rattle.records.proofs.Order.{failed_above}
+use Rattle.reader.proofs.Tests.{Counted, counts, mark_passed, counts_passed, order_mark, order_counts, order_rest}
 use borrow.Author.Rules.{rules}
 use Rattle.reader.proofs.judge.test_file.Statement.{statement}
 use Rattle.reader.proofs.judge.test_file.Tie as tie
@@ -21,7 +21,7 @@ module _ (c : tie.After-enum-told) where
   marked = subst (FirstFailing (MARK bytes ∷ [])) (ap verdict c.enum_told.given.1) c.before.before.test-mark.ensures
 
   long : 9 ≤ length bytes
-  long = (mark-passed bytes marked).0
+  long = (mark_passed bytes marked).0
 
 at_least : {x : ℕ} → 9 ≤ x → 7 ≤ x
 at_least h = omega arith
@@ -33,7 +33,7 @@ counted : (c : tie.After-enum-told3) → FirstFailing (counts (bytes c.before.be
 counted c = subst (FirstFailing (counts (bytes c.before.before.before))) (ap verdict c.enum-told3.given.1) c.before.before.test-counts.ensures
 
 measured : (c : tie.After-enum-told3) → Counted (bytes c.before.before.before)
-measured c = counts-passed (bytes c.before.before.before) (counted c)
+measured c = counts_passed (bytes c.before.before.before) (counted c)
 
 test-mark-requires : tie.Need-test-mark-requires
 test-mark-requires c κs = search rules
@@ -47,7 +47,7 @@ enum-told-2 c = search rules
 returns : tie.Need-returns
 returns c =
     let s = c.before.before.before.before.args in
-    order-mark s.bytes.now s.serials s.words _ c.before.before.test-mark.ensures (failed-above _ _ c.enum-told2.given.1)
+    order_mark s.bytes.now s.serials s.words _ c.before.before.test-mark.ensures (failed_above _ _ c.enum-told2.given.1)
 
 test-counts-requires : tie.Need-test-counts-requires
 test-counts-requires c κs =
@@ -63,7 +63,7 @@ returns-2 : tie.Need-returns-2
 returns-2 c =
     let e = c.before.before.before in
     let s = e.before.before.before.before.args in
-    order-counts s.bytes.now s.serials s.words _ (marked e) c.before.before.test-counts.ensures (failed-above _ _ c.enum-told4.given.1)
+    order_counts s.bytes.now s.serials s.words _ (marked e) c.before.before.test-counts.ensures (failed_above _ _ c.enum-told4.given.1)
 
 short-at-requires : tie.Need-short-at-requires
 short-at-requires c κs =
@@ -89,7 +89,7 @@ returns-3 : tie.Need-returns-3
 returns-3 c =
     let e = c.before.before.before.before.before in
     let s = e.before.before.before.before.before.before.before.args in
-    order-rest s.bytes.now s.serials s.words _ _ _ _ _ (marked e.before.before.before) (counted e)
+    order_rest s.bytes.now s.serials s.words _ _ _ _ _ (marked e.before.before.before) (counted e)
     c.before.before.before.before.short-at.ensures.0 c.before.before.before.short-at2.ensures.0 c.before.before.test-room.ensures c.before.test-records.ensures c.then.ensures
 
 pub test-file-spec : {M : Type 1} → statement M

@@ -2,7 +2,7 @@
 use mathlib.Core.Path.{subst}
 use Rattle.stations.specs.Words.{members}
 use Rattle.stations.specs.Answers.{FirstOf}
-use Rattle.stations.proofs.Laws.{order-at, order-none}
+use Rattle.stations.proofs.Laws.{order_at, order_none}
 use borrow.Author.Rules.{rules}
 use Rattle.stations.proofs.StationSet.before.Statement.{statement}
 use Rattle.stations.proofs.StationSet.before.Tie as tie
@@ -25,12 +25,12 @@ enum_told c = search rules
 returns : tie.Need-returns
 returns c =
     let e = c.before.before.before.before in
-    order-at _ _ _ e.before.differ.ensures c.before.before.f.given.0.0 (subst (FirstOf (members e.before.differ.result)) c.before.before.f.given.1 e.first.ensures) _ c.has.ensures
+    order_at _ _ _ e.before.differ.ensures c.before.before.f.given.0.0 (subst (FirstOf (members e.before.differ.result)) c.before.before.f.given.1 e.first.ensures) _ c.has.ensures
 
 returns-2 : tie.Need-returns-2
 returns-2 c =
     let e = c.before.before in
-    order-none _ _ _ e.before.differ.ensures (subst (FirstOf (members e.before.differ.result)) c.enum_told.given.1 e.first.ensures)
+    order_none _ _ _ e.before.differ.ensures (subst (FirstOf (members e.before.differ.result)) c.enum_told.given.1 e.first.ensures)
 
 pub before-spec : {M : Type 1} → statement M
 before-spec =

@@ -1,7 +1,7 @@
 -- `stations::StationSet::first` meets its contract.
 use borrow.Author.Rules.{rules}
 use native.Mathlib.Omega.{arith}
-use Rattle.stations.proofs.Laws.{none-four, least₀, least₁, least₂, least₃}
+use Rattle.stations.proofs.Laws.{none_four, least₀, least₁, least₂, least₃}
 use Rattle.stations.proofs.StationSet.first.Statement.{statement}
 use Rattle.stations.proofs.StationSet.first.Tie as tie
 
@@ -39,7 +39,7 @@ returns-4 : tie.Need-returns-4
 returns-4 c = least₃ _ _ _ _ _ (omega arith) (omega arith) (omega arith) (omega arith) c.before.if4.true (omega arith)
 
 returns-5 : tie.Need-returns-5
-returns-5 c = none-four _ _ _ _ (omega arith) (omega arith) (omega arith) (omega arith)
+returns-5 c = none_four _ _ _ _ (omega arith) (omega arith) (omega arith) (omega arith)
 
 pub first_spec : {M : Type 1} → statement M
 first_spec =

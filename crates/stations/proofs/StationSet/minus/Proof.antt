@@ -3,13 +3,13 @@ use mathlib.Core.Bool.{Bool, ◌&&◌, not}
 use mathlib.Core.Path.{refl}
 use Prim.Native.Nat.{ℕ}
 use lib.Bits.{bit_and, bit_xor}
-use Rattle.stations.proofs.Bit.{bit-less}
+use Rattle.stations.proofs.Bit.{bit_less}
 use Rattle.stations.proofs.Laws.{zipped}
 use Rattle.stations.proofs.StationSet.minus.Statement.{statement}
 use Rattle.stations.proofs.StationSet.minus.Tie as tie
 
 returns : tie.Need-returns
-returns c = zipped (λ (a b : ℕ). bit_xor a (bit_and a b)) (λ (p q : Bool). p && not q) bit-less refl _ _ _ _ _ _ _ _
+returns c = zipped (λ (a b : ℕ). bit_xor a (bit_and a b)) (λ (p q : Bool). p && not q) bit_less refl _ _ _ _ _ _ _ _
 
 pub minus-spec : {M : Type 1} → statement M
 minus-spec = tie.close (tie.spec returns)

@@ -4,7 +4,7 @@ use native.Mathlib.Omega.{arith}
 use Prim.Native.Nat.{ℕ}
 use lib.Dec.{eqb}
 use borrow.Author.Tests.{ne_eqb}
-use Rattle.stations.proofs.Laws.{four-by}
+use Rattle.stations.proofs.Laws.{four_by}
 use Rattle.stations.proofs.StationSet.one.Statement.{statement}
 use Rattle.stations.proofs.StationSet.one.Tie as tie
 
@@ -23,7 +23,7 @@ one-in-requires-4 c κs = search rules
 returns : tie.Need-returns
 returns c =
     let n : ℕ = c.before.before.before.before.args.j in
-    four-by _ _ _ _ (λ m. eqb m n) (λ m h. ne_eqb m n (λ e. omega arith))
+    four_by _ _ _ _ (λ m. eqb m n) (λ m h. ne_eqb m n (λ e. omega arith))
     c.before.before.before.one_in.ensures c.before.before.one-in2.ensures c.before.one-in3.ensures c.one-in4.ensures
 
 pub one_spec : {M : Type 1} → statement M

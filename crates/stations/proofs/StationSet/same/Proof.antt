@@ -3,7 +3,7 @@ use borrow.Author.Rules.{rules}
 use mathlib.Core.Bool.{xor}
 use mathlib.Core.Path.{◌≡◌, sym, ap, ◌∙◌}
 use Rattle.stations.specs.Words.{members}
-use Rattle.stations.proofs.Laws.{xor-eq, xor_self}
+use Rattle.stations.proofs.Laws.{xor_eq, xor_self}
 use Rattle.stations.proofs.StationSet.same.Statement.{statement}
 use Rattle.stations.proofs.StationSet.same.Tie as tie
 
@@ -18,7 +18,7 @@ returns c =
     let v = members c.before.before.args.self in
     let w = members c.before.before.args.o in
     record {
-      same = λ e j. xor-eq (v j) (w j) (sym (c.before.differ.ensures j) ∙ c.is-empty.ensures.nobody e j);
+      same = λ e j. xor_eq (v j) (w j) (sym (c.before.differ.ensures j) ∙ c.is-empty.ensures.nobody e j);
       other = λ e h. c.is-empty.ensures.somebody e (λ j. c.before.differ.ensures j ∙ ap (xor (v j)) (sym (h j)) ∙ xor_self (v j));
     }
 

@@ -1,7 +1,7 @@
 -- `stations::StationSet::size` meets its contract.
 use borrow.Author.Rules.{rules}
 use native.Mathlib.Omega.{arith}
-use Rattle.stations.proofs.Laws.{size-ones}
+use Rattle.stations.proofs.Laws.{size_ones}
 use Rattle.stations.proofs.StationSet.size.Statement.{statement}
 use Rattle.stations.proofs.StationSet.size.Tie as tie
 
@@ -27,7 +27,7 @@ add-result-3 : tie.Need-overflow-add-result-3
 add-result-3 c = search rules
 
 returns : tie.Need-returns
-returns c = let s = c.before.before.before.before.args.self in omega (arith, size-ones s.a s.b s.c s.d (search rules) (search rules) (search rules) (search rules))
+returns c = let s = c.before.before.before.before.args.self in omega (arith, size_ones s.a s.b s.c s.d (search rules) (search rules) (search rules) (search rules))
 
 pub size-spec : {M : Type 1} → statement M
 size-spec =

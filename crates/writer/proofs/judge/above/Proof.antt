@@ -4,7 +4,7 @@ use mathlib.Core.Path.{ap, ap₂, ◌∙◌}
 use Prim.Native.Nat.{ℕ}
 use Rattle.stations.specs.Words.{has}
 use Rattle.mesh.specs.Table.{linked}
-use Rattle.writer.proofs.Links.{ltb-past}
+use Rattle.writer.proofs.Links.{ltb_past}
 use borrow.Author.Rules.{rules}
 use Rattle.writer.proofs.judge.above.Statement.{statement}
 use Rattle.writer.proofs.judge.above.Tie as tie
@@ -26,7 +26,7 @@ returns c =
     λ x.
     c.minus.ensures x
     ∙ ap₂ (λ (w : List ℕ) (b : Bool). has w x && not b) c.before.before.of_row.ensures (c.before.first-n.ensures x)
-    ∙ ap (λ (b : Bool). linked c.before.before.before.before.args.table.now c.before.before.before.before.args.a x && b) (ltb-past x c.before.before.before.before.args.a)
+    ∙ ap (λ (b : Bool). linked c.before.before.before.before.args.table.now c.before.before.before.before.args.a x && b) (ltb_past x c.before.before.before.before.args.a)
 
 pub above-spec : {M : Type 1} → statement M
 above-spec =

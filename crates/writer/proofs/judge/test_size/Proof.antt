@@ -10,7 +10,7 @@ count-links-requires c κs = search rules
 
 returns : tie.Need-returns
 returns c =
-    inl (omega (arith, c.if1.true, c.before.count-links.ensures.0), refl)
+    inl (omega (arith, c.if1.true, c.before.count_links.ensures.0), refl)
 
 mul-if2 : tie.Need-overflow-mul-if2
 mul-if2 c =
@@ -30,12 +30,12 @@ add-if2-2 c =
 
 returns-2 : tie.Need-returns-2
 returns-2 c =
-    let e = c.before.before.count-links.ensures.0 in
+    let e = c.before.before.count_links.ensures.0 in
     inr (λ l. omega (arith, c.before.if1.false, e), inl (omega (arith, c.if2.true, e), refl))
 
 returns-3 : tie.Need-returns-3
 returns-3 c =
-    let e = c.before.before.count-links.ensures.0 in
+    let e = c.before.before.count_links.ensures.0 in
     inr (λ l. omega (arith, c.before.if1.false, e), inr (λ l. omega (arith, c.if2.false, e), refl))
 
 pub test-size-spec : {M : Type 1} → statement M

@@ -1,4 +1,4 @@
-use Rattle.writer.proofs.File.{file-put}
+use Rattle.writer.proofs.File.{file_put}
 use borrow.Author.Rules.{rules}
 use Rattle.writer.proofs.put.put_file.Statement.{statement}
 use Rattle.writer.proofs.put.put_file.Tie as tie
@@ -24,7 +24,7 @@ same_length c = search rules
 returns : tie.Need-returns
 returns c =
     let s = c.before.before.before.before.before.before.before.before.before.before.before.before.before.before.before.args in
-    file-put s.n s.m _ s.table.now c.before.before.before.before.before.before.before.before.before.before.put-head.ensures c.before.before.before.before.before.before.put-serials.ensures c.before.before.put-links.ensures
+    file_put s.n s.m _ s.table.now c.before.before.before.before.before.before.before.before.before.before.put-head.ensures c.before.before.before.before.before.before.put-serials.ensures c.before.before.put-links.ensures
 
 pub put-file-spec : {M : Type 1} → statement M
 put-file-spec =

@@ -1,6 +1,6 @@
 use native.Mathlib.Omega.{arith}
 use lib.ListN.{length-set}
-use Rattle.writer.proofs.File.{marked-length, head-put}
+use Rattle.writer.proofs.File.{marked_length, head_put}
 use borrow.Author.Rules.{rules}
 use Rattle.writer.proofs.put.put_head.Statement.{statement}
 use Rattle.writer.proofs.put.put_head.Tie as tie
@@ -18,20 +18,20 @@ slice-write-bytes-3 c =
 
 put-short-requires : tie.Need-put-short-requires
 put-short-requires c κs =
-    (search rules, omega (arith, marked-length c.before.before.args.bytes.now))
+    (search rules, omega (arith, marked_length c.before.before.args.bytes.now))
 
 put-short-requires-2 : tie.Need-put-short-requires-2
 put-short-requires-2 c κs =
     let s = c.before.before.before.before.before.before in
     let K = c.before.before.before.put-short.ensures.0.whole in
-    (search rules, omega (arith, s.requires.2, marked-length s.args.bytes.now, K))
+    (search rules, omega (arith, s.requires.2, marked_length s.args.bytes.now, K))
 
 put-short-requires-3 : tie.Need-put-short-requires-3
 put-short-requires-3 c κs =
     let s = c.before.before.before.before.before.before.before.before.before.before in
     let K = c.before.before.before.before.before.before.before.put-short.ensures.0.whole in
     let L = c.before.before.before.put-short2.ensures.0.whole in
-    (search rules, omega (arith, s.requires.2, marked-length s.args.bytes.now, K, L))
+    (search rules, omega (arith, s.requires.2, marked_length s.args.bytes.now, K, L))
 
 same_length : tie.Need-same-length
 same_length c =
@@ -39,7 +39,7 @@ same_length c =
     let K = c.before.before.before.before.before.before.before.before.before.before.put-short.ensures.0.whole in
     let L = c.before.before.before.before.before.before.put-short2.ensures.0.whole in
     let M = c.before.before.put-short3.ensures.0.whole in
-    omega (arith, marked-length s.args.bytes.now, K, L, M)
+    omega (arith, marked_length s.args.bytes.now, K, L, M)
 
 returns : tie.Need-returns
 returns c =
@@ -47,7 +47,7 @@ returns c =
     let K = c.before.before.before.before.before.before.before.before.before.before.put-short.ensures in
     let L = c.before.before.before.before.before.before.put-short2.ensures in
     let M = c.before.before.put-short3.ensures in
-    head-put s.args.n s.args.m s.requires.2 K.0 K.1 L.0 L.1 M.0 M.1
+    head_put s.args.n s.args.m s.requires.2 K.0 K.1 L.0 L.1 M.0 M.1
 
 pub put-head-spec : {M : Type 1} → statement M
 put-head-spec =

@@ -1,6 +1,6 @@
 use mathlib.Core.Path.{◌∙◌}
 use native.Mathlib.Omega.{arith}
-use Rattle.records.proofs.Fields.{kept_trans, short-kept}
+use Rattle.records.proofs.Fields.{kept_trans, short_kept}
 use borrow.Author.Rules.{rules}
 use Rattle.writer.proofs.put.put_link.Statement.{statement}
 use Rattle.writer.proofs.put.put_link.Tie as tie
@@ -21,7 +21,7 @@ returns : tie.Need-returns
 returns c =
     let p = c.before.before.before.before.before.before.put-short.ensures in
     let q = c.before.before.put-short2.ensures in
-    (kept_trans p.0 q.0 (omega arith), short-kept _ q.0 (omega arith) ∙ p.1, q.1)
+    (kept_trans p.0 q.0 (omega arith), short_kept _ q.0 (omega arith) ∙ p.1, q.1)
 
 pub put-link-spec : {M : Type 1} → statement M
 put-link-spec =

@@ -5,7 +5,7 @@ use native.Mathlib.Omega.{arith}
 use lib.ListN.{length}
 use Rattle.stations.specs.Words.{members}
 use Rattle.writer.specs.Steps.{LinksPut}
-use Rattle.writer.proofs.Links.{links-none, links-more, links-all, row_room}
+use Rattle.writer.proofs.Links.{links_none, links_more, links_all, row_room}
 use Rattle.writer.proofs.put.put_links.Statement.{statement}
 use Rattle.writer.proofs.put.put_links.Tie as tie
 
@@ -22,7 +22,7 @@ decreases-loop bytes₀ at table n place₀ a₀ bytes place a =
 
 loop-holds : tie.Need-loop-init invariant-loop decreases-loop
 loop-holds c =
-    (search rules, search rules, links-none _ _ _)
+    (search rules, search rules, links_none _ _ _)
 
 above-requires : tie.Need-above-requires invariant-loop decreases-loop
 above-requires c κs =
@@ -48,14 +48,14 @@ loop-again c =
     let i = u.before.before in
     let s = i.before.before.before.before in
     let Q = c.before.before.put-row.ensures in
-    (search rules, Q.kept.whole ∙ i.before.loop.invariant.1, links-more s.args.table.now i.before.loop.a (members u.above.result) u.above.ensures i.before.loop.invariant.2 Q)
+    (search rules, Q.kept.whole ∙ i.before.loop.invariant.1, links_more s.args.table.now i.before.loop.a (members u.above.result) u.above.ensures i.before.loop.invariant.2 Q)
 
 same_length : tie.Need-same-length invariant-loop decreases-loop
 same_length c = search rules
 
 returns : tie.Need-returns invariant-loop decreases-loop
 returns c =
-    links-all c.before.before.before.before.args.table.now _ _ (omega (arith, c.before.loop.invariant.0, c.loop-test.false)) c.before.loop.invariant.2
+    links_all c.before.before.before.before.args.table.now _ _ (omega (arith, c.before.loop.invariant.0, c.loop-test.false)) c.before.loop.invariant.2
 
 pub put-links-spec : {M : Type 1} → statement M
 put-links-spec =

@@ -4,13 +4,13 @@ use native.Mathlib.Omega.{arith}
 use Rattle.stations.specs.Sets.{size}
 use Rattle.stations.specs.Words.{bit, members}
 use Rattle.stations.specs.declared.StationSet.{StationSet}
-use Rattle.writer.proofs.Links.{size-words, put-words}
+use Rattle.writer.proofs.Links.{size_words, put_words}
 use borrow.Author.Rules.{rules}
 use Rattle.writer.proofs.put.put_row.Statement.{statement}
 use Rattle.writer.proofs.put.put_row.Tie as tie
 
 sizes : (r : StationSet) → size 256 (members r) ≡ size 64 (bit r.a) + size 64 (bit r.b) + size 64 (bit r.c) + size 64 (bit r.d)
-sizes r = size-words r.a r.b r.c r.d
+sizes r = size_words r.a r.b r.c r.d
 
 put-word-requires : tie.Need-put-word-requires
 put-word-requires c κs =
@@ -53,7 +53,7 @@ returns c =
     let Q = c.before.before.before.before.before.before.before.before.before.before.put-word2.ensures in
     let R = c.before.before.before.before.before.before.put-word3.ensures in
     let S = c.before.before.put-word4.ensures in
-    put-words r.a r.b r.c r.d P Q R S
+    put_words r.a r.b r.c r.d P Q R S
 
 pub put-row-spec : {M : Type 1} → statement M
 put-row-spec =

@@ -4,7 +4,7 @@ use Prim.Native.Nat.{◌≤◌, ◌-◌}
 use native.Mathlib.Omega.{arith}
 use lib.ListN.{length}
 use Rattle.writer.specs.Steps.{SerialsPut}
-use Rattle.writer.proofs.File.{serials-none, serials-more, serials-all}
+use Rattle.writer.proofs.File.{serials_none, serials_more, serials_all}
 use Rattle.writer.proofs.put.put_serials.Statement.{statement}
 use Rattle.writer.proofs.put.put_serials.Tie as tie
 
@@ -18,7 +18,7 @@ decreases-loop bytes₀ serials n i₀ bytes i =
 
 loop-holds : tie.Need-loop-init invariant-loop decreases-loop
 loop-holds c =
-    (search rules, search rules, serials-none _ _)
+    (search rules, search rules, serials_none _ _)
 
 mul-put-long : tie.Need-overflow-mul-put-long invariant-loop decreases-loop
 mul-put-long c = search rules
@@ -51,14 +51,14 @@ loop-again c =
     let w = c.before.before.before in
     let i = w.before.before.before in
     let K = c.before.before.put-long.ensures in
-    (search rules, omega (arith, i.before.loop.invariant.1, K.0.whole), serials-more _ _ i.before.loop.invariant.2 K.0 K.1 w.wide-serial.ensures.0)
+    (search rules, omega (arith, i.before.loop.invariant.1, K.0.whole), serials_more _ _ i.before.loop.invariant.2 K.0 K.1 w.wide-serial.ensures.0)
 
 same_length : tie.Need-same-length invariant-loop decreases-loop
 same_length c = search rules
 
 returns : tie.Need-returns invariant-loop decreases-loop
 returns c =
-    serials-all _ _ c.before.loop.invariant.2 c.loop-test.false
+    serials_all _ _ c.before.loop.invariant.2 c.loop-test.false
 
 pub put-serials-spec : {M : Type 1} → statement M
 put-serials-spec =
