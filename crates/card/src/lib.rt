@@ -1,4 +1,6 @@
 // The refusal card, and the tests that every question about a table begins with.
+#![tactic(auto)]
+
 ghost use Rattle.std.specs.Prelude.{[], ◌∷◌, true, ◌≡◌, ℕ, ◌+◌, ◌*◌, ◌<◌, ◌≤◌, length};
 ghost use Rattle.stations.specs.Words.{bit, members};
 ghost use Rattle.mesh.specs.Mesh.{R};
@@ -9,7 +11,7 @@ ghost use Rattle.card.specs.Tests.{Mirrored, MirroredRow, RowFault};
 use stations::StationSet;
 
 // The card (docs/CARD.md), in its order.
-#[derive(Drop)]
+#[derive(Clone, Copy)]
 pub enum Refusal {
     Level,
     Stations,
@@ -55,7 +57,7 @@ impl Refusal {
 }
 
 // What a test comes to.
-#[derive(Drop)]
+#[derive(Clone, Copy)]
 pub enum Tested {
     Passed,
     Failed(Refusal),

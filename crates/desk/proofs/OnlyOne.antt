@@ -6,19 +6,15 @@ use native.Mathlib.Decide.{ℕ_discrete}
 use denote.Ref.{Bor}
 use lib.ListN.{length}
 use Rattle.stations.specs.Sets.{Set, one_if}
-use Rattle.stations.specs.Words.{has}
 use Rattle.stations.proofs.Laws.{Wide, members_same}
 use Rattle.stations.proofs.OnlyOne.{order_only_one}
 use Rattle.routes.specs.declared.Answer as routed
 use Rattle.routes.specs.Reply as routes
 use Rattle.routes.proofs.OnlyOne.{routes_only_one}
-use Rattle.holding.specs.declared.Answer as held
 use Rattle.holding.specs.Reply as holding
 use Rattle.holding.proofs.OnlyOne.{holding_one, judged_only_one}
-use Rattle.groups.specs.declared.Answer as grouped
 use Rattle.groups.specs.Reply as groups
 use Rattle.groups.proofs.OnlyOne.{list_only_one}
-use Rattle.standings.specs.declared.Answer as stood
 use Rattle.standings.specs.Reply as standings
 use Rattle.standings.proofs.OnlyOne.{station_only_one, pair_only_one}
 use Rattle.reader.specs.Reply as reader

@@ -3,7 +3,7 @@ use mathlib.Core.List.{List}
 use mathlib.Core.Path.{◌≡◌, refl, sym, ap}
 use Prim.Native.Nat.{ℕ}
 use native.Mathlib.Omega.{arith}
-use denote.Ref.{MutBor, at_last}
+use denote.Bor.{Bor}
 use lib.ListN.{length}
 use lib.Seq.{take_all}
 use Rattle.stations.specs.Sets.{Before}
@@ -12,10 +12,10 @@ use Rattle.stations.proofs.Replies.{short_row, row_first, row_second}
 use Rattle.desk.specs.Desk.{beginning, FirstRowDesk}
 
 -- four words of a row of four are all of it
-whole : (x : MutBor (List ℕ)) → length x.now ≡ 4 → x ≡ beginning 4 x
-whole x e = ap (at_last x) (sym (take_all 4 x.now (omega arith)))
+whole : (x : Bor (List ℕ)) → length x.now ≡ 4 → x ≡ beginning 4 x
+whole x e = ap (λ (v : List ℕ). let r : Bor (List ℕ) = record x { now = v } in r) (sym (take_all 4 x.now (omega arith)))
 
-module _ (x y : MutBor (List ℕ)) where
+module _ (x y : Bor (List ℕ)) where
   pub short_desk : (length x.now ≡ 4 → length y.now ≡ 4 → ⊥) → FirstRowDesk x y 0 0
   short_desk h = record {
     answer = beginning 0 x;

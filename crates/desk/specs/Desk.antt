@@ -1,6 +1,6 @@
 -- What each exported question says: the reply of the question itself, in the numbers of the rules. And what it means that a question refuses (Refuses).
 use Rattle.std.specs.Prelude.{List, [], ◌∷◌, ◌≡◌, ℕ, zero, suc, length, take}
-use denote.Ref.{MutBor, at_last}
+use Rattle.std.specs.Borrow.{Bor}
 use Rattle.stations.specs.Sets.{one_if, Before}
 use Rattle.stations.specs.Words.{has}
 use Rattle.stations.specs.Answers.{FirstRow}
@@ -30,15 +30,15 @@ pub record Refuses (order : List Test) (r : ℕ) (Left : Type 0) : Type 0 where
 
 -- The order question. Its reply is a part of one of the caller's own rows, and two numbers name it: r the row, 0 for the first and 1 for the second
 -- (row_named), and words how many words it has, from where the row begins (beginning).
-abbrev pub row_named : ℕ → MutBor (List ℕ) → MutBor (List ℕ) → MutBor (List ℕ)
+abbrev pub row_named : ℕ → Bor (List ℕ) → Bor (List ℕ) → Bor (List ℕ)
 row_named zero x y = x
 row_named (suc r) x y = y
 
-abbrev pub beginning : ℕ → MutBor (List ℕ) → MutBor (List ℕ)
-beginning words x = at_last x (take words x.now)
+abbrev pub beginning : ℕ → Bor (List ℕ) → Bor (List ℕ)
+beginning words x = record x { now = take words x.now }
 
-pub record FirstRowDesk (x y : MutBor (List ℕ)) (r words : ℕ) : Type 0 where
-  pub answer : MutBor (List ℕ)
+pub record FirstRowDesk (x y : Bor (List ℕ)) (r words : ℕ) : Type 0 where
+  pub answer : Bor (List ℕ)
   pub replies : FirstRow x y answer
   pub part : answer ≡ beginning words (row_named r x y)
   pub counted : words ≡ length answer.now

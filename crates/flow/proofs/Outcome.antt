@@ -5,7 +5,7 @@ use mathlib.Core.List.{List}
 use mathlib.Core.Logic.{⊎_elim}
 use mathlib.Core.Path.{◌≡◌, refl, sym, ap, ◌∙◌, subst, fun_ext}
 use Prim.Native.Nat.{ℕ, suc, ◌+◌, ◌<◌, ◌≤◌}
-use native.Mathlib.Numerals.{add_one}
+use native.Mathlib.Numerals.{add-one}
 use native.Mathlib.Omega.{arith}
 use Rattle.stations.specs.Sets.{Set, ◌is_in◌, ◌not_in◌, ◌without◌, ◌cut◌, ◌joined◌, only, size}
 use Rattle.stations.specs.Words.{words, members}
@@ -73,7 +73,7 @@ module _ {t : List ℕ} {inner starts ends : StationSet} where
     pub held_more : {from hold' : List ℕ} {h r : ℕ} {first' : StationSet} → Came (net_of t inner starts ends) starts (members first) hold from h → Turned starts hold from h hold' r
         → ((w : ℕ) → members first' w ≡ (members first joined only r) w) → Held t inner starts ends first' hold' (c + 1)
     unfolding held_start
-    held_more {from} {hold'} {h} {r} {first'} C T law = subst (Held t inner starts ends first' hold') (sym (add_one c)) (record {
+    held_more {from} {hold'} {h} {r} {first'} C T law = subst (Held t inner starts ends first' hold') (sym (add-one c)) (record {
       whole = T.whole;
       firsts = λ w m. ⊎_elim (λ i. H.firsts w i) (λ e. let q = only_is r w e in (ap (members inner) q ∙ T.inner (held_start C), ap (members starts) q ∙ T.start))
           (of_joined (members first) (only r) w (sym (law w) ∙ m));

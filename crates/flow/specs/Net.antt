@@ -1,8 +1,8 @@
 -- What `flow` answers about the net between two sets of ends, in a table of links.
 --   net_of t inner starts ends    the net
 --   Flow N limit r               as many chains as the limit, that share no station; or fewer, with a loss of as many stations that leaves none
-use Rattle.std.specs.Prelude.{List, ◌≡◌, refl, ℕ, ◌+◌, ◌*◌, ◌<◌, ◌≤◌, length}
-use Rattle.stations.specs.Sets.{◌is_in◌, ◌part_of◌, size}
+use Rattle.std.specs.Prelude.{List, ◌≡◌, refl, ℕ, ◌<◌}
+use Rattle.stations.specs.Sets.{◌part_of◌, size}
 use Rattle.stations.specs.Words.{words, members}
 use Rattle.stations.specs.declared.StationSet.{StationSet}
 use Rattle.stations.proofs.Laws.{has_small}

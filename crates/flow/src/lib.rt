@@ -1,4 +1,6 @@
 // Chains that share no station between two sets of ends, and a loss that leaves none; routes between two stations.
+#![tactic(auto)]
+
 ghost use Rattle.std.specs.Prelude.{ℕ};
 ghost use Rattle.mesh.specs.Table.{Fits};
 ghost use Rattle.stations.specs.Words.{members};
@@ -11,7 +13,7 @@ use steps::Sought;
 mod steps;
 
 // What `flow` answers: as many chains as asked for, or how many there are, with as many stations whose loss leaves no chain.
-#[derive(Drop)]
+#[derive(Clone, Copy)]
 pub enum Cut {
     Many,
     Few(usize, StationSet),

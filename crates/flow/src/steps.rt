@@ -9,7 +9,7 @@ ghost use Rattle.flow.specs.Search.{SomeOf, MarkedIn, Marked, Idle, Held, Search
 use stations::{Found, StationSet};
 
 // What a search comes to: a station that holds an end, or a loss that leaves no chain.
-#[derive(Drop)]
+#[derive(Clone, Copy)]
 pub enum Sought {
     Way(usize),
     Shut(StationSet),

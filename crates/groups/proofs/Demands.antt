@@ -21,7 +21,7 @@ use Rattle.holding.specs.Reply as holding
 use Rattle.holding.proofs.Demands.{answers as holding-answers}
 use Rattle.mesh.proofs.Covered.{covered}
 use Rattle.mesh.proofs.Sharing.{groups_share}
-use Rattle.mesh.proofs.Bound.{weight, rows_weight}
+use Rattle.mesh.proofs.Bound.{rows_weight}
 use Rattle.listing.specs.List.{set_at}
 use Rattle.groups.specs.declared.Answer.{Answer}
 use Rattle.groups.specs.Reply.{number, count, order, Replies, RowReplies}

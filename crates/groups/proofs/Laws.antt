@@ -1,8 +1,7 @@
 -- From the tests that passed to what the listing asks, and from what it leaves, within all stations, to the reply. And a row asked about where it
 -- stands: a part of four words is the row.
-use mathlib.Core.Bool.{true}
 use mathlib.Core.List.{List, [], ◌∷◌, ◌++◌}
-use mathlib.Core.Logic.{◌⊎◌, inl, inr}
+use mathlib.Core.Logic.{inl, inr}
 use mathlib.Core.Path.{◌≡◌, refl, sym, ◌∙◌, ap, subst, fun_ext}
 use Prim.Native.Nat.{ℕ, suc, ◌+◌, ◌-◌, ◌*◌, ◌<◌, ◌≤◌}
 use native.Mathlib.Decide.{dec_lt, ℕ_discrete}
@@ -24,9 +23,8 @@ use Rattle.holding.specs.declared.Answer as holding-answer
 use Rattle.holding.specs.Reply as holding
 use Rattle.listing.specs.List.{set_at, ListedIn, Asked, Listing}
 use Rattle.listing.proofs.Ending.{listed_groups}
-use Rattle.groups.specs.declared.Answer.{Answer}
 use Rattle.groups.specs.declared.Answer.TheVariants.{Groups, Refused}
-use Rattle.groups.specs.Reply.{number, order, Replies, RowReplies}
+use Rattle.groups.specs.Reply.{order, Replies, RowReplies}
 use Rattle.groups.specs.Steps.{Accepted, Says}
 
 -- the tests one after the other; 15 never fails, so it needs no test

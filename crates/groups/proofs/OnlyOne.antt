@@ -1,20 +1,18 @@
 -- The list question has one reply: two that it allows are the same, with every word of the list afterwards, refused or not. The words of a list are
 -- words of 64 bits (Wide), which their type says; then the same stations are the same words.
-use mathlib.Core.Bool.{Bool}
-use mathlib.Core.List.{List, [], ◌∷◌}
-use mathlib.Core.Logic.{◌⊎◌, inl, inr}
+use mathlib.Core.List.{List, []}
 use mathlib.Core.Path.{◌≡◌, refl, sym, ap, ◌∙◌}
 use Prim.Native.Nat.{ℕ, ◌+◌, ◌*◌, ◌/◌, ◌%◌, ◌^◌, ◌<◌, ◌≤◌}
-use native.Mathlib.Decide.{dec_lt, ℕ_discrete}
+use native.Mathlib.Decide.{dec_lt}
 use native.Mathlib.Omega.{arith}
 use native.Mathlib.Nat.{add-zero}
 use lib.Dec.{lit<}
 use lib.ListN.{length, get_or, get_or-eq_default}
 use lib.Seq.{ext_get_or}
 use Rattle.stations.specs.Sets.{Set}
-use Rattle.stations.specs.Words.{has, row}
+use Rattle.stations.specs.Words.{row}
 use Rattle.stations.proofs.Laws.{Wide, four, members_same}
-use Rattle.mesh.specs.Mesh.{Listed, R}
+use Rattle.mesh.specs.Mesh.{R}
 use Rattle.mesh.specs.Table.{linked}
 use Rattle.mesh.proofs.OnlyOne.{listed_one}
 use Rattle.card.proofs.Card.{first_one, refusal_one, number_above}

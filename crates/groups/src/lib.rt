@@ -1,4 +1,6 @@
 // The list question: all groups at a level, in order, in a lent list. And the holding question about a row of such a list, where it stands.
+#![tactic(auto)]
+
 ghost use Rattle.std.specs.Prelude.{◌≡◌, ℕ, length};
 ghost use Rattle.groups.specs.Reply.{number, count, Replies, RowReplies};
 ghost use Rattle.groups.specs.Steps.{Accepted, Says};
@@ -6,7 +8,7 @@ ghost use Rattle.groups.specs.Steps.{Accepted, Says};
 use card::{Refusal, Tested};
 use stations::StationSet;
 
-#[derive(Drop)]
+#[derive(Clone, Copy)]
 pub enum Answer {
     Groups(usize),
     Refused(Refusal),

@@ -1,8 +1,8 @@
 -- From the tests that passed to what the verdict asks, and from what it says, counted below 256, to the reply, counted below n.
 use mathlib.Core.Bool.{true}
 use mathlib.Core.List.{List, [], ◌∷◌, ◌++◌}
-use mathlib.Core.Logic.{◌⊎◌, inl, inr}
-use mathlib.Core.Path.{◌≡◌, refl, sym, ◌∙◌, ap, subst}
+use mathlib.Core.Logic.{inl, inr}
+use mathlib.Core.Path.{◌≡◌, sym, ◌∙◌, ap, subst}
 use Prim.Native.Nat.{ℕ, ◌<◌, ◌≤◌}
 use native.Mathlib.Decide.{dec_lt, ℕ_discrete}
 use native.Mathlib.Omega.{arith}
@@ -24,7 +24,7 @@ use Rattle.verdicts.specs.Verdicts.{reply}
 use Rattle.verdicts.specs.declared.Answer as verdicts
 use Rattle.holding.specs.declared.Answer.{Answer}
 use Rattle.holding.specs.declared.Answer.TheVariants.{Refused}
-use Rattle.holding.specs.Reply.{number, order, Replies, Judges}
+use Rattle.holding.specs.Reply.{order, Replies, Judges}
 use Rattle.holding.specs.declared.Brief.{Brief}
 use Rattle.holding.specs.declared.Brief.TheVariants as brief
 use Rattle.holding.specs.Steps.{Accepted, Says, SaysBriefly}

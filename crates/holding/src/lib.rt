@@ -1,4 +1,6 @@
 // The holding question: does a set hold at a level, and where it does not, which loss parts it?
+#![tactic(auto)]
+
 ghost use Rattle.std.specs.Prelude.{◌≡◌, ℕ};
 ghost use Rattle.stations.specs.Words.{members};
 ghost use Rattle.holding.specs.Reply.{number, verdict, weak_set, Replies, brief_number, brief_verdict, Judges};
@@ -7,7 +9,7 @@ ghost use Rattle.holding.specs.Steps.{Accepted, Says, SaysBriefly};
 use card::{Refusal, Tested};
 use stations::StationSet;
 
-#[derive(Drop)]
+#[derive(Clone, Copy)]
 pub enum Answer {
     Holds,
     Few,
@@ -58,7 +60,7 @@ impl Answer {
 }
 
 // The verdict alone, without the weak set.
-#[derive(Drop)]
+#[derive(Clone, Copy)]
 pub enum Brief {
     Holds,
     Few,

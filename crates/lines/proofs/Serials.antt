@@ -3,7 +3,7 @@ use mathlib.Core.Bool.{Bool}
 use mathlib.Core.List.{List, ◌++◌, append-nil}
 use mathlib.Core.Path.{◌≡◌, refl, sym, ◌∙◌, ap, subst}
 use Prim.Native.Nat.{ℕ, zero, suc, ◌+◌, ◌-◌, ◌*◌, ◌<◌, ◌≤◌}
-use native.Mathlib.Nat.{add-zero, add_suc}
+use native.Mathlib.Nat.{add-zero, add-suc}
 use native.Mathlib.Omega.{arith}
 use native.Mathlib.Decide.{dec_lt}
 use lib.ListN.{length, get_or}
@@ -27,7 +27,7 @@ serials_skip : (serials : List ℕ) (s : Set) (j k : ℕ) → ((x : ℕ) → j �
 unfolding serials_of
 serials_skip serials s j zero h = rw (add-zero j)
 serials_skip serials s j (suc k) h =
-    ap (λ (i : ℕ). serials_of i serials s) (add_suc j k)
+    ap (λ (i : ℕ). serials_of i serials s) (add-suc j k)
     ∙ ap (λ (b : Bool). serials_of (j + k) serials s ++ serial_if b (get_or serials (j + k) 0)) (h (j + k) (omega arith) (omega arith))
     ∙ append-nil (serials_of (j + k) serials s)
     ∙ serials_skip serials s j k (λ x l g. h x l (omega arith))

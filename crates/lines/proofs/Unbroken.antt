@@ -1,14 +1,13 @@
 -- Each line of the page is one line: it ends with a line break, and has no other. Numbers are digits, and no digit is a line break.
 use mathlib.Core.Bool.{Bool, true, false, cond}
 use mathlib.Core.List.{List, [], ◌∷◌, ◌++◌}
-use mathlib.Core.Logic.{◌≢◌}
-use mathlib.Core.Path.{◌≡◌, refl}
-use Prim.Native.Nat.{ℕ, zero, suc, ◌+◌, ◌/◌, ◌%◌}
+use mathlib.Core.Path.{refl}
+use Prim.Native.Nat.{ℕ, zero, suc, ◌/◌, ◌%◌}
 use native.Mathlib.Omega.{arith}
 use lib.Dec.{ltb}
 use lib.ListN.{length, get_or}
 use Rattle.stations.specs.Sets.{Set}
-use Rattle.lines.specs.Lines.{text, digit, decimal_in, decimal, labelled, serial_if, serials_of, first_line, group_line, last_line, refused_line, Unbroken, Line}
+use Rattle.lines.specs.Lines.{text, digit, decimal_in, decimal, labelled, serial_if, serials_of, group_line, Unbroken, Line}
 
 unbroken_both : (x y : List ℕ) → Unbroken x → Unbroken y → Unbroken (x ++ y)
 unbroken_both [] y p q = q

@@ -1,5 +1,7 @@
 // The lines of the night list. Each function puts one into a lent page from a place on, and returns the place after it. The room that each asks for is
 // a little more than its line's: a number is given room for twenty digits.
+#![tactic(auto)]
+
 ghost use Rattle.std.specs.Prelude.{◌≡◌, ◌+◌, ◌*◌, ◌<◌, ◌≤◌, ◌++◌, length, get_or};
 ghost use Rattle.stations.specs.Sets.{size};
 ghost use Rattle.stations.specs.Words.{members};

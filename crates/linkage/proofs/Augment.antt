@@ -2,7 +2,7 @@
 -- hole takes what another station holds, which is then the hole (move); a hole that is a start takes the mark, and there is one chain more (finish).
 use mathlib.Core.Path.{◌≡◌, refl, sym, ap, ◌∙◌}
 use mathlib.Core.Logic.{◌≢◌}
-use mathlib.Core.Bool.{Bool, true, false, not, ◌&&◌, and-true, and_false}
+use mathlib.Core.Bool.{Bool, true, false, not, ◌&&◌, and-true, and-false}
 use mathlib.Core.List.{List}
 use Prim.Native.Nat.{ℕ, suc, ◌+◌, ◌≤◌, ◌<◌}
 use native.Mathlib.Decide.{ℕ_discrete}
@@ -25,7 +25,7 @@ stored_map φ f f' h u st = (ap φ st.0, λ w ne. ap φ (st.1 w ne))
 
 and_swap : (p q r : Bool) → p && q && r ≡ (p && r) && q
 and_swap true true r = sym (and-true r)
-and_swap true false r = sym (and_false r)
+and_swap true false r = sym (and-false r)
 and_swap false q r = refl
 
 size_less_cut : (f g : Set) (v n : ℕ) → v < n → v is_in f cut g → size n (f without only v cut g) + 1 ≡ size n (f cut g)

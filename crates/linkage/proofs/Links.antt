@@ -2,7 +2,7 @@
 -- linked they are all links (other_links_all).
 use mathlib.Core.Path.{◌≡◌, refl, sym, ◌∙◌, fun_ext}
 use mathlib.Core.Logic.{◌⊎◌, inl, inr}
-use mathlib.Core.Bool.{Bool, true, false, not, ◌&&◌, ◌||◌, and_false}
+use mathlib.Core.Bool.{Bool, true, false, not, ◌&&◌, ◌||◌, and-false}
 use Prim.Native.Nat.{ℕ}
 use Rattle.stations.specs.Sets.{only}
 use Rattle.stations.proofs.Bools.{test, never, and_left}
@@ -26,7 +26,7 @@ other_links_of L a b v w e = and_left (L v w) (not ((only a v && only b w) || (o
 
 pub other_links_off : (L : Links) (a b : ℕ) → other_links L a b a b ≡ false
 unfolding other_links
-other_links_off L a b = rw (is_only a, is_only b) (and_false (L a b))
+other_links_off L a b = rw (is_only a, is_only b) (and-false (L a b))
 
 -- a link of another station is no link of the pair
 pub other_links_same : (L : Links) (a b v w : ℕ) → (v ≡ a → w ≡ b → ⊥) → (v ≡ b → w ≡ a → ⊥) → other_links L a b v w ≡ L v w

@@ -1,1 +1,2 @@
 // The theory of linkages stands in specs/ and proofs/.
+#![tactic(auto)]

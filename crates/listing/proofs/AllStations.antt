@@ -9,7 +9,7 @@ use Rattle.stations.specs.Sets.{Set, stations, size}
 use Rattle.stations.specs.Words.{members}
 use Rattle.stations.specs.declared.StationSet.{StationSet}
 use Rattle.stations.proofs.Counting.{size_past, size-stations}
-use Rattle.mesh.specs.Mesh.{Mesh, Listed, R}
+use Rattle.mesh.specs.Mesh.{Listed, R}
 use Rattle.mesh.specs.Table.{linked, Table}
 use Rattle.mesh.proofs.Bound.{rows_weight}
 use Rattle.listing.specs.List.{set_at, ListedIn, Asked, Listing}

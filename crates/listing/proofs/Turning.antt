@@ -16,7 +16,7 @@ use Rattle.mesh.proofs.Bound.{total, total_same, weight}
 use Rattle.mesh.proofs.Pieces.{Pieces, put, put_same, put_other, total_put, pieces_same, shrink, drop, few_sets, few_pieces}
 use Rattle.listing.specs.List.{set_at}
 use Rattle.listing.specs.Rows.{Kept, Stored}
-use Rattle.listing.specs.Steps.{Pruned, over, Dividing, Divided, State, above, Turned}
+use Rattle.listing.specs.Steps.{Pruned, over, Dividing, Divided, State, Turned}
 use Rattle.listing.proofs.Lists.{kept_more, kept_less}
 use Rattle.listing.proofs.Exchange.{total_both, exchange, replaced}
 

@@ -1,4 +1,6 @@
 // The list of the groups within a set of stations. The rows of the lent list are the only room it works in.
+#![tactic(auto)]
+
 ghost use Rattle.stations.specs.Words.{members};
 ghost use Rattle.listing.specs.List.{Asked, Listing};
 

@@ -9,7 +9,7 @@ use pairs::Settled;
 use stations::StationSet;
 
 // How far a search is: rows 0 to done - 1 are groups, rows done to all - 1 are unfinished pieces.
-#[derive(Drop)]
+#[derive(Clone, Copy)]
 pub(crate) struct Stand {
     pub(crate) done: usize,
     pub(crate) all: usize,

@@ -2,7 +2,7 @@
 -- a stations make pieces of a + c, and (a + c + 1 - k) / 2 summed over the islands is at most the weight of the whole, since each island beyond
 -- the first gives up k - c stations of its own. So a division adds no weight (bound), rows of more than k stations are never more than R, and
 -- the stations above k fall (falls). A family that is part of another weighs no more (total_inject).
-use mathlib.Core.Path.{◌≡◌, refl, sym, ◌∙◌, ap}
+use mathlib.Core.Path.{◌≡◌, refl, ◌∙◌, ap}
 use mathlib.Core.Logic.{◌⊎◌, inl, inr}
 use mathlib.Core.Bool.{Bool, true, false, cond, false≢true}
 use Prim.Native.Nat.{ℕ, zero, suc, ◌+◌, ◌-◌, ◌/◌, ◌≤◌, ◌<◌}
@@ -10,11 +10,11 @@ use native.Mathlib.Omega.{arith}
 use native.Mathlib.Decide.{ℕ_discrete}
 use lib.Dec.{leb, eqb}
 use borrow.Author.Tests.{leb-true, leb-false, eq-eqb, ne_eqb}
-use Rattle.stations.specs.Sets.{Set, ◌is_in◌, ◌not_in◌, ◌part_of◌, none, ◌without◌, ◌cut◌, ◌joined◌, size}
+use Rattle.stations.specs.Sets.{Set, ◌is_in◌, ◌not_in◌, ◌part_of◌, none, ◌without◌, ◌joined◌, size}
 use Rattle.mesh.specs.Mesh.{Links, R}
 use Rattle.mesh.specs.Dividing.{Islands}
-use Rattle.stations.proofs.Bools.{test, never, or_cases, or_left, or_right}
-use Rattle.stations.proofs.Members.{of_without, in_without, same_set}
+use Rattle.stations.proofs.Bools.{test, or_cases, or_left, or_right}
+use Rattle.stations.proofs.Members.{of_without, same_set}
 use Rattle.stations.proofs.Counting.{size_minus, size_disjoint, Disjoint, size_empty}
 
 -- f 0 + .. + f (t - 1)

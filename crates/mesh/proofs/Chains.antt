@@ -1,16 +1,15 @@
 -- Chains: how Touch goes with larger sets, longer chains and back; a set of one is whole (one_whole); a station of a set that holds at k has at
 -- least k links inside it (degree).
-use mathlib.Core.Path.{◌≡◌, refl}
-use mathlib.Core.Logic.{◌⊎◌, inl, inr}
-use mathlib.Core.Bool.{Bool, true, false}
-use Prim.Native.Nat.{ℕ, suc, ◌+◌, ◌≤◌, ◌<◌}
+use mathlib.Core.Path.{◌≡◌}
+use mathlib.Core.Bool.{true}
+use Prim.Native.Nat.{ℕ, ◌≤◌}
 use native.Mathlib.Omega.{arith}
 use native.Mathlib.Decide.{dec_le}
 use Rattle.stations.specs.Sets.{Set, ◌is_in◌, ◌not_in◌, ◌part_of◌, only, ◌without◌, ◌cut◌, size}
 use Rattle.mesh.specs.Mesh.{Links, Mesh, Touch, here, step, Whole, Holds}
-use Rattle.stations.proofs.Bools.{never, and_left, and_right, and_in, test}
+use Rattle.stations.proofs.Bools.{never, and_left, and_in}
 use Rattle.stations.proofs.Members.{of_without, in_without, only_is, is_only}
-use Rattle.stations.proofs.Counting.{size_minus, size-only, size_mono, more}
+use Rattle.stations.proofs.Counting.{size_minus, size-only, more}
 
 module _ {L : Links} {s : Set} where
   pub touch_sub : {t : Set} {a b : ℕ} → s part_of t → Touch L s a b → Touch L t a b

@@ -1,19 +1,18 @@
 -- Holding is decided, and every set that holds lies in a group: a set that holds and is no group lies in a larger one that holds, and sizes end at
 -- n. So the rows of a list cover every set that holds.
-use mathlib.Core.Path.{◌≡◌, refl, sym, ◌∙◌, ap, subst}
+use mathlib.Core.Path.{◌≡◌, refl, subst}
 use mathlib.Core.Logic.{◌⊎◌, inl, inr}
-use mathlib.Core.Bool.{Bool, true, false, not, ◌&&◌, ◌||◌, cond, true≢false, false≢true}
-use Prim.Native.Nat.{ℕ, zero, suc, ◌+◌, ◌-◌, ◌≤◌, ◌<◌}
+use mathlib.Core.Bool.{Bool, true, false, ◌&&◌, true≢false, false≢true}
+use Prim.Native.Nat.{ℕ, zero, suc, ◌+◌, ◌≤◌, ◌<◌}
 use native.Mathlib.Omega.{arith}
-use native.Mathlib.Decide.{dec_le, dec_lt, ℕ_discrete}
-use lib.Dec.{eqb, ltb}
-use borrow.Author.Tests.{eqb-true, eq-eqb, ne_eqb, ltb-true, lt-ltb, not-false}
-use Rattle.stations.specs.Sets.{Set, ◌is_in◌, ◌not_in◌, ◌part_of◌, none, only, stations, ◌without◌, ◌cut◌, ◌joined◌, Below, Before, size, one_if}
-use Rattle.mesh.specs.Mesh.{Links, Mesh, Whole, Holds, Group, Groups, Weak, WeakSet, Reply, HOLDS, FEW, WEAK, Answers}
-use Rattle.mesh.proofs.Small.Decide.{guard, each, wholeb, every, every_part, holdsb, subb}
-use Rattle.stations.proofs.Bools.{test, never, and_left, and_right, and_in, or_cases, or_left, or_right, not_true}
-use Rattle.stations.proofs.Members.{of_without, same_set, only_is, is_only}
-use Rattle.stations.proofs.Counting.{size_le, size-sub, size_mono, size_pos, full, least}
+use native.Mathlib.Decide.{dec_le}
+use borrow.Author.Tests.{lt-ltb}
+use Rattle.stations.specs.Sets.{Set, ◌is_in◌, ◌part_of◌, none, only, stations, ◌joined◌, Below, size, one_if}
+use Rattle.mesh.specs.Mesh.{Links, Mesh, Holds, Group, Groups}
+use Rattle.mesh.proofs.Small.Decide.{guard, every, holdsb, subb}
+use Rattle.stations.proofs.Bools.{test, never, or_cases}
+use Rattle.stations.proofs.Members.{only_is}
+use Rattle.stations.proofs.Counting.{size_le, size_mono, full}
 use Rattle.mesh.proofs.Small.Decided.{each_in, guard_in, guard_out, not_past, one_if_le, sub_sound, every_sound, holds_sound, holds_complete}
 
 -- holding is decided

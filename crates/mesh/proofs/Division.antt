@@ -1,12 +1,12 @@
 -- Dividing a piece by a loss S of fewer than k stations: a set that holds lies in one island joined with S (divide), since what remains of it
 -- without S is whole and so lies in one island; two such pieces share S and nothing else (overlap).
-use mathlib.Core.Path.{◌≡◌, refl, ap}
+use mathlib.Core.Path.{◌≡◌}
 use mathlib.Core.Logic.{◌⊎◌, inl, inr}
-use mathlib.Core.Bool.{Bool, true, false, ◌||◌}
-use Prim.Native.Nat.{ℕ, suc, ◌+◌, ◌≤◌, ◌<◌}
+use mathlib.Core.Bool.{true, false, ◌||◌}
+use Prim.Native.Nat.{ℕ, ◌≤◌, ◌<◌}
 use native.Mathlib.Omega.{arith}
 use Rattle.stations.specs.Sets.{Set, ◌is_in◌, ◌not_in◌, ◌part_of◌, ◌without◌, ◌cut◌, ◌joined◌, size}
-use Rattle.mesh.specs.Mesh.{Links, Mesh, Touch, Whole, Holds}
+use Rattle.mesh.specs.Mesh.{Links, Holds}
 use Rattle.mesh.specs.Dividing.{Islands}
 use Rattle.stations.proofs.Bools.{test, never, and_left, and_right, and_in, or_cases, or_left, or_right}
 use Rattle.stations.proofs.Members.{of_without, in_without, same_set}

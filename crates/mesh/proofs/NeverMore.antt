@@ -3,16 +3,16 @@
 use mathlib.Core.Bool.{Bool, true, false, cond}
 use mathlib.Core.List.{List, [], ◌∷◌, ◌++◌}
 use mathlib.Core.Logic.{◌⊎◌, inl, inr}
-use mathlib.Core.Path.{◌≡◌, refl, sym, ap}
-use Prim.Native.Nat.{ℕ, zero, suc, ◌+◌, ◌≤◌, ◌<◌}
+use mathlib.Core.Path.{◌≡◌, ap}
+use Prim.Native.Nat.{ℕ, zero, suc, ◌+◌, ◌≤◌}
 use native.Mathlib.Omega.{arith}
 use lib.Dec.{ltb}
-use borrow.Author.Tests.{ltb-true, ltb-false}
-use Rattle.stations.specs.Sets.{Set, ◌joined◌, stations, one_if, size}
+use borrow.Author.Tests.{ltb-true}
+use Rattle.stations.specs.Sets.{Set, ◌joined◌, one_if, size}
 use Rattle.stations.proofs.Bools.{test}
 use Rattle.stations.proofs.Counting.{size-stations}
 use Rattle.mesh.specs.Mesh.{Links, R}
-use Rattle.mesh.specs.Dividing.{Islands, parts, Dividing, all_stations, divided, needed}
+use Rattle.mesh.specs.Dividing.{parts, Dividing, all_stations, divided, needed}
 use Rattle.mesh.proofs.Bound.{total, weight, rows_weight, bound}
 
 weigh : ℕ → ℕ → List Set → ℕ

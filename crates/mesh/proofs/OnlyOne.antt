@@ -1,13 +1,12 @@
 -- A reply is the only one. Two weak sets that are each smallest and first are the same; two lists of the groups in order are the same, since each
 -- row of one has its place in the other and places rise with rows; so two answers to the holding question are the same.
-use mathlib.Core.Path.{◌≡◌, refl, sym, ◌∙◌, ap, subst}
+use mathlib.Core.Path.{◌≡◌, refl, sym, ◌∙◌, ap}
 use mathlib.Core.Logic.{◌⊎◌, inl, inr}
-use mathlib.Core.Bool.{Bool, true, false}
-use Prim.Native.Nat.{ℕ, zero, suc, ◌+◌, ◌≤◌, ◌<◌}
+use Prim.Native.Nat.{ℕ, zero, suc, ◌≤◌, ◌<◌}
 use native.Mathlib.Omega.{arith}
 use native.Mathlib.Decide.{dec_lt, ℕ_discrete}
-use Rattle.stations.specs.Sets.{Set, ◌is_in◌, ◌not_in◌, Before, size}
-use Rattle.mesh.specs.Mesh.{Links, Weak, WeakSet, Groups, Listed, Holds, Reply, HOLDS, FEW, WEAK, Answers}
+use Rattle.stations.specs.Sets.{Set, Before, size}
+use Rattle.mesh.specs.Mesh.{Links, WeakSet, Listed, Reply, HOLDS, FEW, WEAK, Answers}
 use Rattle.stations.proofs.Order.{before_not_after, before_not_self}
 
 -- the weak set of a reply is the only one

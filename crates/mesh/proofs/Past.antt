@@ -1,10 +1,9 @@
 -- Counting further than the stations go changes nothing: what holds, is weak or is answered when sizes are counted below m does when they are counted
 -- below n, for sets of stations below n and n at most m.
 use mathlib.Core.Path.{◌≡◌, sym, ◌∙◌}
-use mathlib.Core.Logic.{◌⊎◌}
-use Prim.Native.Nat.{ℕ, ◌<◌, ◌≤◌}
+use Prim.Native.Nat.{ℕ, ◌≤◌}
 use native.Mathlib.Omega.{arith}
-use Rattle.stations.specs.Sets.{Set, ◌is_in◌, ◌part_of◌, Below, size, Before}
+use Rattle.stations.specs.Sets.{Set, ◌part_of◌, Below, size}
 use Rattle.stations.proofs.Counting.{size_past}
 use Rattle.mesh.specs.Mesh.{Links, Holds, Weak, WeakSet, Reply, HOLDS, FEW, WEAK, Answers}
 

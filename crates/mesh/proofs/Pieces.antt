@@ -2,19 +2,19 @@
 -- fewer than k stations, the weights add up to at most that of D. The steps: begin with D; shrink a piece; split it in two; drop one of k stations
 -- or fewer. When each piece holds, the pieces are what was sought (found), and the groups where D is all stations (done). A piece parted by a loss
 -- is split island by island (halves-..).
-use mathlib.Core.Path.{◌≡◌, refl, sym, ◌∙◌, ap, subst}
+use mathlib.Core.Path.{◌≡◌, refl, ◌∙◌, ap, subst}
 use mathlib.Core.Logic.{◌⊎◌, inl, inr}
-use mathlib.Core.Bool.{Bool, true, false, cond, not}
-use Prim.Native.Nat.{ℕ, zero, suc, ◌+◌, ◌-◌, ◌/◌, ◌≤◌, ◌<◌}
+use mathlib.Core.Bool.{true, false, cond}
+use Prim.Native.Nat.{ℕ, zero, suc, ◌+◌, ◌-◌, ◌≤◌, ◌<◌}
 use native.Mathlib.Omega.{arith}
-use native.Mathlib.Decide.{ℕ_discrete, dec_lt}
-use lib.Dec.{eqb, ltb}
-use borrow.Author.Tests.{eq-eqb, ne_eqb, ltb-true, lt-ltb}
-use Rattle.stations.specs.Sets.{Set, ◌is_in◌, ◌not_in◌, ◌part_of◌, only, ◌without◌, ◌cut◌, ◌joined◌, Below, stations, size}
+use native.Mathlib.Decide.{ℕ_discrete}
+use lib.Dec.{eqb}
+use borrow.Author.Tests.{eq-eqb, ne_eqb}
+use Rattle.stations.specs.Sets.{Set, ◌is_in◌, ◌not_in◌, ◌part_of◌, ◌without◌, ◌cut◌, ◌joined◌, stations, size}
 use Rattle.mesh.specs.Mesh.{Links, Mesh, Holds, Groups}
 use Rattle.stations.proofs.Bools.{test, never, and_left, and_right, and_in, or_cases, or_left, or_right}
 use Rattle.stations.proofs.Members.{of_without, in_without, same_set}
-use Rattle.stations.proofs.Counting.{size-sub, size_le}
+use Rattle.stations.proofs.Counting.{size-sub}
 use Rattle.mesh.proofs.Bound.{total, weight, total_same, heavy, bound, falls}
 use Rattle.mesh.proofs.Division.{divide, overlap}
 use Rattle.mesh.specs.Dividing.{Islands}

@@ -1,10 +1,8 @@
 -- What a search may leave out: lower levels hold where a higher one does, and a station with fewer than k links inside a piece is in none of its
 -- sets that hold, since such a set gives each of its stations k links (degree).
-use mathlib.Core.Path.{◌≡◌}
-use mathlib.Core.Bool.{Bool, true}
 use Prim.Native.Nat.{ℕ, ◌≤◌, ◌<◌}
 use native.Mathlib.Omega.{arith}
-use Rattle.stations.specs.Sets.{Set, ◌is_in◌, ◌part_of◌, only, ◌without◌, ◌cut◌, size}
+use Rattle.stations.specs.Sets.{Set, ◌part_of◌, only, ◌without◌, ◌cut◌, size}
 use Rattle.stations.proofs.Bools.{and_left, and_right, and_in}
 use Rattle.stations.proofs.Members.{in_without, not_only}
 use Rattle.stations.proofs.Counting.{size-sub}

@@ -1,12 +1,12 @@
 -- Rows in a set D that hold, cover each set of D that holds, and share fewer than k stations two by two: no row lies in another, and each is as
 -- large as a set of D that holds can be (largest). Where D is all stations they are the groups, each once (rows).
-use mathlib.Core.Path.{◌≡◌, refl, ap}
-use Prim.Native.Nat.{ℕ, suc, ◌+◌, ◌≤◌, ◌<◌}
+use mathlib.Core.Path.{◌≡◌}
+use Prim.Native.Nat.{ℕ, ◌<◌}
 use native.Mathlib.Omega.{arith}
 use native.Mathlib.Decide.{ℕ_discrete}
 use borrow.Author.Tests.{lt-ltb}
-use Rattle.stations.specs.Sets.{Set, ◌is_in◌, ◌part_of◌, ◌cut◌, stations, size}
-use Rattle.mesh.specs.Mesh.{Links, Holds, Group, Groups}
+use Rattle.stations.specs.Sets.{Set, ◌part_of◌, ◌cut◌, stations, size}
+use Rattle.mesh.specs.Mesh.{Links, Holds, Groups}
 use Rattle.stations.proofs.Bools.{and_in}
 use Rattle.stations.proofs.Members.{same_set}
 use Rattle.stations.proofs.Counting.{size-sub}

@@ -1,16 +1,16 @@
 -- Two different groups share fewer than k stations. If they shared k or more, then without any fewer than k stations both would still be whole and
 -- share a station, so the two together would be whole: they would hold, and neither would be a largest set that does.
-use mathlib.Core.Bool.{Bool, true, false, ◌&&◌, ◌||◌, and_comm}
+use mathlib.Core.Bool.{and_comm}
 use mathlib.Core.Logic.{◌⊎◌, inl, inr}
 use mathlib.Core.Path.{◌≡◌, ◌∙◌}
 use Prim.Native.Nat.{ℕ, ◌≤◌, ◌<◌}
 use native.Mathlib.Decide.{dec_lt}
 use native.Mathlib.Omega.{arith}
-use Rattle.stations.specs.Sets.{Set, ◌is_in◌, ◌not_in◌, ◌part_of◌, ◌without◌, ◌cut◌, ◌joined◌, Below, size}
+use Rattle.stations.specs.Sets.{Set, ◌is_in◌, ◌not_in◌, ◌part_of◌, ◌without◌, ◌cut◌, ◌joined◌, size}
 use Rattle.stations.proofs.Bools.{and_off, or_left, or_right}
-use Rattle.stations.proofs.Members.{same_set, in_without, of_without, in_cut, of_cut, of_joined}
+use Rattle.stations.proofs.Members.{same_set, in_without, of_without, of_cut, of_joined}
 use Rattle.stations.proofs.Counting.{size-sub, more}
-use Rattle.mesh.specs.Mesh.{Links, Mesh, Touch, Whole, Holds, Group}
+use Rattle.mesh.specs.Mesh.{Links, Touch, Whole, Holds, Group}
 use Rattle.mesh.proofs.Chains.{touch_sub, touch_join}
 
 module _ (L : Links) (n k : ℕ) (s t : Set) (hs : Holds L n k s) (ht : Holds L n k t) (many : k ≤ size n (s cut t)) where

@@ -4,7 +4,7 @@
 --   parts n k S t I         each joined with S, without those of k stations or fewer
 --   Dividing L n k Ps       Ps are the pieces after some divisions
 --   needed n k Ps           how many of them have more than k stations: the rows they need
-use Rattle.std.specs.Prelude.{Bool, true, cond, List, [], ◌∷◌, ◌++◌, ◌≡◌, ℕ, zero, suc, ◌+◌, ◌<◌, ltb}
+use Rattle.std.specs.Prelude.{true, cond, List, [], ◌∷◌, ◌++◌, ◌≡◌, ℕ, zero, suc, ◌+◌, ◌<◌, ltb}
 use Rattle.stations.specs.Sets.{Set, ◌is_in◌, ◌part_of◌, ◌without◌, ◌joined◌, stations, one_if, size}
 use Rattle.mesh.specs.Mesh.{Links}
 

@@ -5,7 +5,7 @@
 --   FewRoutes L k s a b  a and b are a weak pair of s at k
 --   Parts L s a b S      the loss of S, other stations of s, parts a from b
 --   Least L n s a b c    c other stations are the fewest whose loss parts the two
-use Rattle.std.specs.Prelude.{◌≡◌, Bool, true, false, ◌≢◌, ℕ, ◌<◌, ◌≤◌}
+use Rattle.std.specs.Prelude.{◌≡◌, true, false, ◌≢◌, ℕ, ◌<◌, ◌≤◌}
 use mathlib.Core.List.{List, [], ◌∷◌, Memᴰ}
 use Rattle.stations.specs.Sets.{Set, ◌is_in◌, ◌part_of◌, only, ◌without◌, size}
 use Rattle.mesh.specs.Mesh.{Links, Touch}

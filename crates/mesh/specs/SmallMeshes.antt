@@ -1,6 +1,6 @@
 -- The table of small meshes of docs/RULES.md (X1): its rows marked P as questions and replies, and what each states. One result,
 -- `shown` of proofs/Shown, shows them all from the definitions.
-use Rattle.std.specs.Prelude.{◌≡◌, Bool, true, false, ◌&&◌, ◌||◌, List, [], ◌∷◌, ℕ, zero, suc, ◌<◌, eqb, ltb, length}
+use Rattle.std.specs.Prelude.{false, ◌&&◌, ◌||◌, List, [], ◌∷◌, ℕ, zero, suc, eqb, length}
 use Rattle.stations.specs.Sets.{Set, none, stations}
 use Rattle.mesh.specs.Mesh.{Links, Listed, HOLDS, FEW, WEAK, Answers}
 use Rattle.mesh.specs.Standing.{Standing}

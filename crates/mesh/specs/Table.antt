@@ -2,7 +2,7 @@
 --   linked t a b      station b stands in the row of station a
 --   Table n t         t is an accepted table of n stations
 --   Fault n t         what refusal 4 speaks of
-use Rattle.std.specs.Prelude.{Bool, true, false, List, ◌≡◌, ℕ, ◌+◌, ◌*◌, ◌<◌, ◌≤◌, length}
+use Rattle.std.specs.Prelude.{true, false, List, ◌≡◌, ℕ, ◌+◌, ◌*◌, ◌<◌, ◌≤◌, length}
 use Rattle.stations.specs.Sets.{Set, ◌is_in◌}
 use Rattle.stations.specs.Words.{has, row}
 use Rattle.mesh.specs.Mesh.{Links}

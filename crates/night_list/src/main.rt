@@ -1,18 +1,38 @@
 // The night list: reads a survey from standard input and prints its page. What the page is for which survey is `page::night_list`'s contract; reading
 // and writing are all that is here.
-use libc::{STDIN_FILENO, STDOUT_FILENO};
+#![tactic(auto)]
+
+ghost use Rattle.std.specs.Prelude.{◌≤◌, length, IfOk};
+
+use std::io;
+use std::io::{Read, Write};
+
+// Reads until the buffer is full or the input ends; how many bytes there are.
+fn read_full<R: Read>(input: &mut R, bytes: &mut [u8]) -> io::Result<usize>
+    ensures { IfOk result (λ n. n ≤ length bytes.new) }
+{
+    let mut n = 0;
+    while n < bytes.len() {
+        let more = input.read(&mut bytes[n..])?;
+        if more == 0 {
+            break;
+        }
+        n += more;
+    }
+    Ok(n)
+}
 
 // The page of a survey, in one write where the system takes it whole.
-fn print(survey: &[u8], page: &mut [u8]) {
+fn print<W: Write>(output: &mut W, survey: &[u8], page: &mut [u8]) -> io::Result<()> {
     let answer = page::night_list(survey, page);
     let length = answer.page_length();
-    io::write_all(STDOUT_FILENO, &page[..length]);
+    output.write_all(&page[..length])
 }
 
 // At most 33,802 bytes are read: a longer survey is no survey, and has one byte too many here too.
-fn main() {
+fn main(rt: HostRuntime) -> io::Result<()> {
     let mut survey = [0u8; 33802];
-    let n = io::read_full(STDIN_FILENO, &mut survey);
+    let n = read_full(&mut rt.stdin(), &mut survey)?;
     let mut page = [0u8; 262144];
-    print(&survey[..n], &mut page);
+    print(&mut rt.stdout(), &survey[..n], &mut page)
 }

@@ -1,12 +1,11 @@
 -- The page of a survey of no station, computed: two lines, and no other page is allowed for it (empty_page, empty_page_only).
 use mathlib.Core.Bool.{Bool, true, false, ◌&&◌}
 use mathlib.Core.List.{List, [], ◌∷◌, ◌++◌}
-use mathlib.Core.Logic.{◌⊎◌, inl, inr}
-use mathlib.Core.Path.{◌≡◌, refl, ◌∙◌}
-use Prim.Native.Nat.{ℕ, zero, suc, ◌<◌}
+use mathlib.Core.Logic.{inr}
+use mathlib.Core.Path.{◌≡◌, refl}
+use Prim.Native.Nat.{ℕ, zero, suc}
 use native.Mathlib.Omega.{arith}
 use lib.Dec.{ltb, lit<}
-use lib.ListN.{length, get_or}
 use borrow.Author.Tests.{ltb-true}
 use Rattle.stations.specs.Sets.{Set}
 use Rattle.stations.proofs.Bools.{never, and_left, and_right}

@@ -1,12 +1,11 @@
 -- The lines of a level, one group after the other, with the room that they take.
-use mathlib.Core.List.{List, [], ◌++◌}
-use mathlib.Core.Path.{◌≡◌, refl, sym, ap, subst}
+use mathlib.Core.List.{List}
+use mathlib.Core.Path.{◌≡◌, refl, ap, subst}
 use Prim.Native.Nat.{ℕ, zero, suc, ◌+◌, ◌*◌, ◌<◌, ◌≤◌}
 use native.Mathlib.Nat.{zero-mul, suc-mul, mul-le-mul_right}
 use native.Mathlib.Decide.{ℕ_discrete}
 use native.Mathlib.Omega.{arith}
-use lib.ListN.{length}
-use Rattle.stations.specs.Sets.{Set, size}
+use Rattle.stations.specs.Sets.{size}
 use Rattle.stations.specs.Words.{has, words, row, members}
 use Rattle.stations.specs.declared.StationSet.{StationSet}
 use Rattle.mesh.proofs.Bound.{total, weight}

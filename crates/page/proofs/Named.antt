@@ -2,7 +2,7 @@
 -- the place that the group has in the level's list (names_every_group). The page of an accepted survey is its first line, the lines of the levels'
 -- lists and the last line, and nothing else (page_of).
 use mathlib.Core.List.{List, [], ◌∷◌, ◌++◌, append_assoc, append-nil}
-use mathlib.Core.Logic.{◌⊎◌, inl, inr}
+use mathlib.Core.Logic.{inl, inr}
 use mathlib.Core.Path.{◌≡◌, refl, sym, ◌∙◌, ap, subst}
 use Prim.Native.Nat.{ℕ, zero, suc, ◌<◌, ◌≤◌}
 use native.Mathlib.Decide.{dec_le, ℕ_discrete}

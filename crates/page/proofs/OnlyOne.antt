@@ -1,18 +1,17 @@
 -- A survey has one page, and the night list one reply: two that the contract allows are the same, refused or not, and so are the buffers afterwards.
 use mathlib.Core.List.{List, [], ◌∷◌, ◌++◌}
-use mathlib.Core.Logic.{◌⊎◌, inl, inr}
+use mathlib.Core.Logic.{inl, inr}
 use mathlib.Core.Path.{◌≡◌, refl, sym, ◌∙◌, ap, ap₂, subst}
-use Prim.Native.Nat.{ℕ, zero, suc, ◌+◌, ◌<◌, ◌≤◌}
+use Prim.Native.Nat.{ℕ, zero, suc, ◌<◌, ◌≤◌}
 use native.Mathlib.Decide.{dec_lt, ℕ_discrete}
 use native.Mathlib.Omega.{arith}
-use lib.ListN.{length, take, drop}
+use lib.ListN.{length, take}
 use lib.Seq.{length-take-le}
 use Rattle.stations.specs.Sets.{Set}
-use Rattle.mesh.specs.Mesh.{Links, Group, Listed}
+use Rattle.mesh.specs.Mesh.{Links, Group}
 use Rattle.mesh.specs.Table.{linked}
 use Rattle.mesh.proofs.OnlyOne.{listed_one}
 use Rattle.card.proofs.Card.{first_one, none_given, refusal_one, number_above}
-use Rattle.records.specs.Survey.{Survey}
 use Rattle.survey.proofs.OneSurvey.{same_version, same_stations, same_records, same_serials, same_table}
 use Rattle.survey.proofs.OnlyOne.{rejoined}
 use Rattle.lines.specs.Lines.{first_line, group_line, last_line, refused_line}

@@ -1,6 +1,6 @@
 -- From what the reader replied to the page, and from the page to the reply of the night list.
-use mathlib.Core.List.{List, [], ◌∷◌, ◌++◌}
-use mathlib.Core.Logic.{◌⊎◌, inl, inr}
+use mathlib.Core.List.{List, ◌++◌}
+use mathlib.Core.Logic.{inl, inr}
 use mathlib.Core.Path.{◌≡◌, refl, sym, ◌∙◌, ap, subst, subst₂}
 use Prim.Native.Nat.{ℕ, zero, suc, ◌+◌, ◌*◌, ◌<◌, ◌≤◌}
 use native.Mathlib.Decide.{ℕ_discrete}
@@ -18,7 +18,6 @@ use Rattle.reader.specs.declared.ReadAnswer.{ReadAnswer}
 use Rattle.reader.specs.declared.ReadAnswer.TheVariants.{Read, Refused}
 use Rattle.reader.specs.Reply.{number, stations, Reads}
 use Rattle.lines.specs.Lines.{first_line, last_line, refused_line, Added}
-use Rattle.page.specs.declared.PageAnswer.{PageAnswer}
 use Rattle.page.specs.declared.PageAnswer.TheVariants as answer
 use Rattle.page.specs.Page.{survey_order, Page, refused, listed}
 use Rattle.page.specs.Reply.{Prints}

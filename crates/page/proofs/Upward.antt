@@ -1,22 +1,22 @@
 -- The lines of the levels, one level after the other, with the room that they take.
 use mathlib.Core.List.{List, [], ◌++◌}
-use mathlib.Core.Logic.{◌⊎◌, inl, inr}
-use mathlib.Core.Path.{◌≡◌, refl, sym, ap, subst}
+use mathlib.Core.Logic.{inr}
+use mathlib.Core.Path.{◌≡◌, refl, ap, subst}
 use Prim.Native.Nat.{ℕ, zero, suc, ◌+◌, ◌*◌, ◌<◌, ◌≤◌}
 use native.Mathlib.Decide.{ℕ_discrete}
 use native.Mathlib.Omega.{arith}
 use lib.ListN.{length}
-use Rattle.stations.specs.Sets.{Set, stations}
+use Rattle.stations.specs.Sets.{stations}
 use Rattle.stations.specs.Words.{members}
 use Rattle.stations.specs.declared.StationSet.{StationSet}
-use Rattle.mesh.specs.Mesh.{Listed, Group}
-use Rattle.mesh.specs.Table.{linked, Table}
+use Rattle.mesh.specs.Mesh.{Listed}
+use Rattle.mesh.specs.Table.{linked}
 use Rattle.mesh.proofs.Bound.{total}
 use Rattle.listing.specs.List.{set_at, Asked, Listing}
 use Rattle.listing.proofs.AllStations as all
 use Rattle.lines.specs.Lines.{Added}
 use Rattle.lines.proofs.Adding.{added_none, added_then}
-use Rattle.page.specs.Page.{group_lines, Levels, no_level, next_level, Last}
+use Rattle.page.specs.Page.{group_lines, no_level, next_level, Last}
 use Rattle.page.specs.Steps.{line_room, Fit, LevelPut, levels_room, Ready, LevelsPut}
 use Rattle.page.proofs.Level.{level_most}
 

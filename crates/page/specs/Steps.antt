@@ -4,7 +4,7 @@
 --   SurveyReady, SurveyPut    before and after the page of an accepted survey
 --   WasRead, AnswerReady      before the page of what the reader replied
 --   PagePut              after the whole page
-use Rattle.std.specs.Prelude.{List, ◌++◌, ◌≡◌, ℕ, zero, suc, ◌+◌, ◌*◌, ◌<◌, ◌≤◌, length, take}
+use Rattle.std.specs.Prelude.{List, ◌++◌, ◌≡◌, ℕ, zero, suc, ◌+◌, ◌*◌, ◌≤◌, length, take}
 use Rattle.stations.specs.Sets.{size}
 use Rattle.mesh.specs.Table.{linked, Table}
 use Rattle.mesh.proofs.Bound.{total}

@@ -1,5 +1,7 @@
 // The page of the night list, as bytes in a lent buffer: a survey is read, its groups are listed level by level, and each line is put after the last.
 // Reading the survey and writing the page out are left to the program.
+#![tactic(auto)]
+
 ghost use Rattle.std.specs.Prelude.{◌≡◌, List, ℕ, ◌≤◌, length};
 ghost use Rattle.mesh.specs.Table.{linked};
 ghost use Rattle.page.specs.Page.{Last};
@@ -10,7 +12,7 @@ use card::Refusal;
 use reader::ReadAnswer;
 use stations::StationSet;
 
-#[derive(Drop)]
+#[derive(Clone, Copy)]
 pub enum PageAnswer {
     Printed(usize),
     Refused(Refusal),
@@ -42,7 +44,7 @@ impl PageAnswer {
 }
 
 // The highest level with a group, and the place after its lines.
-#[derive(Drop)]
+#[derive(Clone, Copy)]
 struct Reached {
     top: usize,
     at: usize,

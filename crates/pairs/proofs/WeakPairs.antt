@@ -1,15 +1,15 @@
 -- What a settling pair is: two stations of the piece that are not linked, with fewer than k routes inside it, exactly. A loss of fewer than k that parts
 -- them has a station of each route; and where there are fewer than k routes, a loss of as many stations parts them (menger).
-use mathlib.Core.Bool.{true, false}
+use mathlib.Core.Bool.{false}
 use mathlib.Core.Logic.{◌≢◌, ◌↔◌}
 use mathlib.Core.Path.{◌≡◌, refl, sym, subst}
-use Prim.Native.Nat.{ℕ, ◌<◌}
+use Prim.Native.Nat.{ℕ}
 use native.Mathlib.Omega.{arith}
-use Rattle.stations.specs.Sets.{Set, ◌is_in◌, only, ◌without◌, Below, size}
+use Rattle.stations.specs.Sets.{Set, ◌is_in◌, only, ◌without◌, Below}
 use Rattle.stations.proofs.Bools.{never, not_so}
 use Rattle.stations.proofs.Members.{of_without, in_without, in_less}
 use Rattle.mesh.specs.Mesh.{Links, Mesh, Touch, here, step}
-use Rattle.mesh.specs.Routes.{Routes, FewRoutes, Parts}
+use Rattle.mesh.specs.Routes.{FewRoutes, Parts}
 use Rattle.mesh.proofs.Chains.{touch_back}
 use Rattle.linkage.proofs.Pairs.{of_others}
 use Rattle.linkage.proofs.Routes.{menger, routes_loss}

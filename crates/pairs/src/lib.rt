@@ -1,4 +1,6 @@
 // The weak pair search: is there a loss of fewer than k stations that leaves a set not whole?
+#![tactic(auto)]
+
 ghost use Rattle.stations.specs.Sets.{◌is_in◌};
 ghost use Rattle.stations.specs.Words.{members};
 ghost use Rattle.mesh.specs.Table.{linked, Fits};
@@ -8,7 +10,7 @@ use flow::Cut;
 use stations::{Found, StationSet};
 
 // What the weak pair search says: no pair settles it, or this one does, and the loss parts the two.
-#[derive(Drop)]
+#[derive(Clone, Copy)]
 pub enum Settled {
     Firm,
     Pair(usize, usize, StationSet),

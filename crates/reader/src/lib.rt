@@ -1,5 +1,7 @@
 // The reader of survey files. Every refusal is decided before the first store: one pass over the records tests them, a second one, which cannot fail,
 // fills the buffers.
+#![tactic(auto)]
+
 ghost use Rattle.std.specs.Prelude.{◌≡◌};
 ghost use Rattle.reader.specs.Reply.{number, version, stations, links, Reads};
 
@@ -8,7 +10,7 @@ use card::{Refusal, Tested};
 mod fill;
 mod judge;
 
-#[derive(Drop)]
+#[derive(Clone, Copy)]
 pub enum ReadAnswer {
     Read {
         version: usize,

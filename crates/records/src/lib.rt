@@ -1,4 +1,6 @@
 // The fields and records of a survey file: reading, putting and testing them one by one.
+#![tactic(auto)]
+
 ghost use Rattle.std.specs.Prelude.{[], ◌∷◌, ◌≡◌, ◌+◌, ◌*◌, ◌<◌, ◌≤◌, length};
 ghost use Rattle.card.specs.Card.{verdict, FirstFailing};
 ghost use Rattle.records.specs.Bytes.{short, long, Octets, Kept};
@@ -8,14 +10,14 @@ ghost use Rattle.records.specs.Steps.{SerialAt, LinkAt};
 use card::{Refusal, Tested};
 
 // A serial record taken apart, or broken.
-#[derive(Drop)]
+#[derive(Clone, Copy)]
 pub enum SerialRecord {
     Serial(usize),
     Broken,
 }
 
 // A link record taken apart, or broken.
-#[derive(Drop)]
+#[derive(Clone, Copy)]
 pub enum LinkRecord {
     Link(usize, usize),
     Broken,

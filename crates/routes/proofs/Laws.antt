@@ -1,20 +1,17 @@
 -- From the tests that passed to what the search asks, and from what it says to the reply: where a and b are not linked, the links without their own
 -- are all links, so the search's count is the greatest number of routes and the smallest loss.
-use mathlib.Core.Bool.{Bool, true, false}
+use mathlib.Core.Bool.{true, false}
 use mathlib.Core.List.{List, [], ◌∷◌}
-use mathlib.Core.Logic.{◌≢◌, ◌⊎◌, inl, inr}
+use mathlib.Core.Logic.{◌⊎◌, inl, inr}
 use mathlib.Core.Path.{◌≡◌, refl, sym, ◌∙◌, subst, fun_ext}
 use Prim.Native.Nat.{ℕ, ◌<◌, ◌≤◌}
-use native.Mathlib.Decide.{dec_lt}
 use native.Mathlib.Omega.{arith}
 use borrow.Author.Tests.{ltb-true, lt-ltb}
-use Rattle.stations.specs.Sets.{Set, stations, Below}
+use Rattle.stations.specs.Sets.{stations}
 use Rattle.stations.specs.Words.{members}
 use Rattle.stations.specs.declared.StationSet.{StationSet}
 use Rattle.stations.proofs.Bools.{test, never}
-use Rattle.mesh.specs.Mesh.{Links}
 use Rattle.mesh.specs.Table.{linked, Table}
-use Rattle.mesh.specs.Routes.{Most, Least}
 use Rattle.card.specs.Card.{FirstFailing, earlier, table_order, PAIR}
 use Rattle.card.proofs.Card.{Passes, first_then, table_numbered, table_passed, number_above}
 use Rattle.card.proofs.TableTest.{table_mesh}

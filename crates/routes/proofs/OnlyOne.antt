@@ -1,7 +1,7 @@
 -- The routes question has one reply: two that it allows are the same, refused or not.
-use mathlib.Core.Bool.{Bool, true, false}
+use mathlib.Core.Bool.{false}
 use mathlib.Core.List.{List}
-use mathlib.Core.Path.{◌≡◌, refl, sym, ap, ◌∙◌}
+use mathlib.Core.Path.{◌≡◌, refl, sym, ap}
 use Prim.Native.Nat.{ℕ}
 use Rattle.stations.specs.Sets.{stations}
 use Rattle.stations.proofs.Bools.{never}

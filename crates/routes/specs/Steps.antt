@@ -1,5 +1,5 @@
 -- What the steps of the routes question ask and say.
-use Rattle.std.specs.Prelude.{Bool, true, false, List, ◌≢◌, ◌≡◌, ℕ, ◌<◌, ◌≤◌}
+use Rattle.std.specs.Prelude.{false, List, ◌≢◌, ◌≡◌, ℕ, ◌<◌}
 use Rattle.stations.specs.Sets.{stations}
 use Rattle.mesh.specs.Table.{linked, Table}
 use Rattle.mesh.specs.Routes.{Most, Least}

@@ -1,4 +1,6 @@
 // The routes question: how many separate routes lead between two stations.
+#![tactic(auto)]
+
 ghost use Rattle.std.specs.Prelude.{◌≡◌};
 ghost use Rattle.stations.specs.Sets.{one_if};
 ghost use Rattle.routes.specs.Reply.{number, joined, count, Replies};
@@ -8,7 +10,7 @@ use card::{Refusal, Tested};
 use flow::Cut;
 use stations::StationSet;
 
-#[derive(Drop)]
+#[derive(Clone, Copy)]
 pub enum Answer {
     Counted(usize),
     Joined,

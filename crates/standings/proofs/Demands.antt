@@ -1,8 +1,8 @@
 -- Standings are always answered: a station of an accepted table has its standing, and so have two different ones.
 use mathlib.Core.List.{List, [], ◌∷◌}
-use mathlib.Core.Logic.{◌≢◌, ◌⊎◌, inl, inr}
+use mathlib.Core.Logic.{◌≢◌, inl, inr}
 use mathlib.Core.Path.{◌≡◌}
-use Prim.Native.Nat.{ℕ, ◌<◌, ◌≤◌}
+use Prim.Native.Nat.{ℕ, ◌<◌}
 use native.Mathlib.Omega.{arith}
 use Rattle.mesh.specs.Table.{linked, Table}
 use Rattle.mesh.specs.Standing.{Standing, PairStanding}

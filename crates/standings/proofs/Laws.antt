@@ -1,11 +1,11 @@
 -- A station in a group at a level is in one at each lower level, since what holds at k holds below (level_down) and lies in a group (in_group). So a
 -- station in no group at v + 1 stands at v if it is in one at v.
-use mathlib.Core.Bool.{Bool, true, false}
+use mathlib.Core.Bool.{Bool}
 use mathlib.Core.List.{List, [], ◌∷◌, ◌++◌}
 use mathlib.Core.Logic.{◌⊎◌, inl, inr}
-use mathlib.Core.Path.{◌≡◌, refl, sym, ◌∙◌, ap, subst}
+use mathlib.Core.Path.{◌≡◌, sym, ◌∙◌, ap, subst}
 use Prim.Native.Nat.{ℕ, ◌+◌, ◌*◌, ◌<◌, ◌≤◌}
-use native.Mathlib.Decide.{dec_le, dec_lt}
+use native.Mathlib.Decide.{dec_le}
 use native.Mathlib.Omega.{arith}
 use lib.ListN.{length}
 use Rattle.stations.specs.Sets.{Set, ◌is_in◌, stations}
@@ -13,12 +13,12 @@ use Rattle.stations.specs.Words.{members}
 use Rattle.stations.specs.declared.StationSet.{StationSet}
 use Rattle.mesh.specs.Mesh.{Links, Mesh, Group, Listed}
 use Rattle.mesh.specs.Standing.{Standing, PairStanding}
-use Rattle.mesh.specs.Table.{linked, Table}
+use Rattle.mesh.specs.Table.{linked}
 use Rattle.mesh.proofs.Pruning.{level_down}
 use Rattle.mesh.proofs.Covered.{in_group}
 use Rattle.card.specs.declared.Refusal.{Refusal}
 use Rattle.card.specs.Card.{Test, FirstFailing, earlier, table_order, Says, STATION, PAIR}
-use Rattle.card.proofs.Card.{Numbered, Passes, first_then, table_numbered, table_passed, number_above, rows_pass}
+use Rattle.card.proofs.Card.{first_then, table_numbered, table_passed, number_above, rows_pass}
 use Rattle.card.proofs.TableTest.{table_mesh}
 use Rattle.listing.specs.List as listing
 use Rattle.listing.specs.List.{set_at}

@@ -1,4 +1,6 @@
 // Standings: the largest level at which some group has a station, and the smaller of two for a pair.
+#![tactic(auto)]
+
 ghost use Rattle.std.specs.Prelude.{◌≡◌, ℕ, ◌*◌, ◌≤◌, length};
 ghost use Rattle.mesh.specs.Table.{linked};
 ghost use Rattle.mesh.specs.Standing.{Standing, PairStanding};
@@ -9,7 +11,7 @@ ghost use Rattle.standings.specs.Steps.{Named, InGroup, Asked};
 use card::{Refusal, Tested};
 use stations::StationSet;
 
-#[derive(Drop)]
+#[derive(Clone, Copy)]
 pub enum Answer {
     Stands(usize),
     Refused(Refusal),

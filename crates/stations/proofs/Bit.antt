@@ -1,16 +1,16 @@
 -- The laws of one bit of a word. Assumes nothing.
 use mathlib.Core.Bool.{Bool, true, false, ◌&&◌, ◌||◌, not, xor}
 use mathlib.Core.Path.{◌≡◌, refl, sym, ap, ap₂, ◌∙◌, subst}
-use Prim.Native.Nat.{ℕ, zero, suc, ◌+◌, ◌-◌, ◌*◌, ◌/◌, ◌%◌, ◌^◌, ◌≤◌, ◌<◌, min, max, zero-le, suc-le-suc}
-use native.Mathlib.Nat.{zero-div, div-eq_of_lt, lt_of_lt_of_le, pow-suc, mul-mod_left, mul-div_cancel, zero-lt-suc, mod-lt, div-one, not-suc-le-zero, le_of_suc-le-suc, mod-eq_of_lt}
+use Prim.Native.Nat.{ℕ, zero, suc, ◌-◌, ◌/◌, ◌%◌, ◌^◌, ◌≤◌, ◌<◌, min, max, suc-le-suc}
+use native.Mathlib.Nat.{zero-div, div-eq_of_lt, lt_of_lt_of_le, pow-suc, zero-lt-suc, div-one, not-suc-le-zero, le_of_suc-le-suc}
 use native.Mathlib.Numerals.{one-add}
 use native.Mathlib.Omega.{arith}
 use lib.Arith.{lt-one}
 use lib.Bits.{bit_and, bit_or, bit_xor, differ, and_shr, or_shr, xor_shr, and_step, or_step, xor_step, and_mask, and_self}
 use lib.Count.{count_trailing_zeros, under}
-use lib.Dec.{eqb, ltb, leb, eqb-zero-suc, eqb-suc-zero, eqb-suc-suc, leb-zero, leb-suc-zero, leb-suc-suc}
-use lib.Pow.{shr-shr, pow_mono, pow_pos, shr_lt}
-use borrow.Author.Tests.{eqb-true, eqb-false, eq-eqb, ne_eqb}
+use lib.Dec.{eqb, ltb, eqb-zero-suc, eqb-suc-zero, eqb-suc-suc, leb-zero, leb-suc-zero, leb-suc-suc}
+use lib.Pow.{shr-shr, pow_mono, pow_pos}
+use borrow.Author.Tests.{eqb-false}
 use Rattle.stations.specs.Words.{bit}
 
 -- ---- two digits

@@ -4,14 +4,14 @@ use mathlib.Core.Path.{◌≡◌, refl, sym, ◌∙◌, ap, subst}
 use mathlib.Core.Logic.{◌≢◌, ◌⊎◌, inl, inr}
 use mathlib.Core.Bool.{Bool, true, false, not, ◌&&◌, ◌||◌, false≢true}
 use Prim.Native.Nat.{ℕ, zero, suc, ◌+◌, ◌≤◌, ◌<◌}
-use native.Mathlib.Nat.{add-zero, add_suc}
+use native.Mathlib.Nat.{add-zero, add-suc}
 use native.Mathlib.Omega.{arith}
 use native.Mathlib.Decide.{dec_lt, ℕ_discrete}
-use lib.Dec.{eqb, ltb}
+use lib.Dec.{eqb}
 use borrow.Author.Tests.{eq-eqb, ne_eqb, lt-ltb}
 use Rattle.stations.specs.Sets.{Set, ◌is_in◌, ◌not_in◌, ◌part_of◌, none, only, stations, ◌without◌, ◌cut◌, ◌joined◌, Below, one_if, size}
 use Rattle.stations.proofs.Bools.{test, never, and_left, and_right, and_in}
-use Rattle.stations.proofs.Members.{same_set, in_without, in_less, of_less, less_same, only_is, is_only, not_only}
+use Rattle.stations.proofs.Members.{same_set, in_without, in_less, only_is, not_only}
 
 one_mono : (a b : Bool) → (a ≡ true → b ≡ true) → one_if a ≤ one_if b
 one_mono true b f = rw (f refl) (omega arith)
@@ -163,7 +163,7 @@ size_ext (suc n) s t h = rw (h n (omega arith), size_ext n s t (λ x l. h x (ome
 pub size-add : (a b : ℕ) (s : Set) → size (a + b) s ≡ size a s + size b (λ x. s (a + x))
 unfolding size
 size-add a zero s = rw (add-zero a) (omega arith)
-size-add a (suc b) s = rw (add_suc a b) (omega (arith, size-add a b s))
+size-add a (suc b) s = rw (add-suc a b) (omega (arith, size-add a b s))
 
 -- a set of stations below n has as many below any larger number
 pub size_past : (n m : ℕ) (s : Set) → Below n s → n ≤ m → size m s ≡ size n s

@@ -1,10 +1,9 @@
 -- The laws of a set of words: where a station stands (has_at), sets told word by word (has_by, zipped), the same members are the same words
 -- (members_same), the size is the sum of the ones, the smallest station is the lowest bit, the order by the smallest difference, rows of tables.
-use mathlib.Core.Bool.{Bool, true, false, ◌&&◌, ◌||◌, not, xor, true≢false, false≢true}
+use mathlib.Core.Bool.{Bool, true, false, xor, true≢false, false≢true}
 use mathlib.Core.List.{List, [], ◌∷◌}
-use mathlib.Core.Logic.{◌⊎◌, inl, inr}
 use mathlib.Core.Path.{◌≡◌, refl, sym, ap, ap₂, ◌∙◌, subst}
-use Prim.Native.Nat.{ℕ, zero, suc, ◌+◌, ◌*◌, ◌/◌, ◌%◌, ◌^◌, ◌≤◌, ◌<◌, zero-le, suc-le-suc}
+use Prim.Native.Nat.{ℕ, zero, suc, ◌+◌, ◌*◌, ◌/◌, ◌%◌, ◌^◌, ◌≤◌, ◌<◌}
 use native.Mathlib.Nat.{not-suc-le-zero, le_of_suc-le-suc, add-zero}
 use native.Mathlib.Decide.{dec_lt}
 use native.Mathlib.Omega.{arith}

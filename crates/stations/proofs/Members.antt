@@ -1,12 +1,12 @@
 -- Who is in a set made of others: in-.. puts a station in, of-.. says what it tells that one is in, off-.. keeps one out.
 -- Sets that contain each other are equal (same_set).
-use mathlib.Core.Bool.{Bool, true, false, not, ◌&&◌, ◌||◌}
+use mathlib.Core.Bool.{Bool, true, false, not, ◌&&◌}
 use mathlib.Core.Logic.{◌≢◌, ◌⊎◌}
 use mathlib.Core.Path.{◌≡◌, refl, sym, ap, ◌∙◌, fun_ext}
 use Prim.Native.Nat.{ℕ}
 use borrow.Author.Tests.{eqb-true, eq-eqb, ne_eqb}
 use Rattle.stations.specs.Sets.{Set, ◌is_in◌, ◌not_in◌, ◌part_of◌, only, ◌without◌, ◌cut◌, ◌joined◌}
-use Rattle.stations.proofs.Bools.{never, not_true, and_left, and_right, and_in, or_cases, or_left, or_right, same_bool}
+use Rattle.stations.proofs.Bools.{never, not_true, and_left, and_right, and_in, or_cases, same_bool}
 
 pub same_set : (s t : Set) → s part_of t → t part_of s → s ≡ t
 same_set s t f g = fun_ext (λ x. same_bool (s x) (t x) (f x) (g x))

@@ -1,12 +1,12 @@
 -- The order of sets is strict, and total but for equal sets: of two sets below n, one comes before the other, or they are the same.
-use mathlib.Core.Bool.{Bool, true, false}
+use mathlib.Core.Bool.{true, false}
 use mathlib.Core.Logic.{◌⊎◌, inl, inr}
 use mathlib.Core.Path.{◌≡◌, sym, ap, ◌∙◌, subst}
 use Prim.Native.Nat.{ℕ, zero, suc, ◌<◌}
 use native.Mathlib.Decide.{dec_lt, ℕ_discrete}
 use native.Mathlib.Omega.{arith}
-use Rattle.stations.specs.Sets.{Set, ◌is_in◌, Below, Before}
-use Rattle.stations.proofs.Bools.{test, never, not_so}
+use Rattle.stations.specs.Sets.{Set, Below, Before}
+use Rattle.stations.proofs.Bools.{test, never}
 use Rattle.stations.proofs.Members.{same_set}
 
 pub before_not_after : (s t : Set) → Before s t → Before t s → ⊥

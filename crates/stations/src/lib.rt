@@ -1,4 +1,6 @@
 // A set of the stations 0..255, as four words of 64 bits: station j is bit j % 64 of word j / 64.
+#![tactic(auto)]
+
 ghost use Rattle.std.specs.Prelude.{◌≡◌, ℕ, ◌+◌, ◌*◌, ◌<◌, ◌≤◌, eqb, ltb, length, get_or};
 ghost use Rattle.std.specs.Bool.{xor};
 ghost use Rattle.std.specs.Int.Count.{ones, count_trailing_zeros};
@@ -6,7 +8,7 @@ ghost use Rattle.stations.specs.Sets.{none, only, stations, size, ◌joined◌, 
 ghost use Rattle.stations.specs.Words.{bit, words, members, row, put_row};
 ghost use Rattle.stations.specs.Answers.{FirstOf, Emptiness, Sameness, Order, FirstRow};
 
-#[derive(Drop)]
+#[derive(Clone, Copy)]
 pub struct StationSet {
     pub a: u64,
     pub b: u64,
@@ -14,7 +16,7 @@ pub struct StationSet {
     pub d: u64,
 }
 
-#[derive(Drop)]
+#[derive(Clone, Copy)]
 pub enum Found {
     At(usize),
     Nothing,

@@ -1,1 +1,2 @@
 // The laws of survey files: no code, see proofs/.
+#![tactic(auto)]

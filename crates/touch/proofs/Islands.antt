@@ -2,7 +2,7 @@
 -- has all its links of the set reached (Grown). A wave is what the front is linked to in the set and has not been reached. Where
 -- it is empty, what is reached is closed under links, so it is the island.
 use mathlib.Core.Bool.{Bool, true, false, ◌||◌}
-use mathlib.Core.Logic.{◌⊎◌, inl, inr, ⊎_elim}
+use mathlib.Core.Logic.{⊎_elim}
 use mathlib.Core.Path.{◌≡◌, refl, sym, ap, ◌∙◌, subst}
 use Prim.Native.Nat.{ℕ, ◌<◌}
 use native.Mathlib.Omega.{arith}

@@ -1,4 +1,6 @@
 // The holding question of a set, with the smallest and first weak set.
+#![tactic(auto)]
+
 ghost use Rattle.stations.specs.Words.{members};
 ghost use Rattle.mesh.specs.Table.{linked};
 ghost use Rattle.mesh.specs.Mesh.{Answers};
@@ -9,7 +11,7 @@ use pairs::Settled;
 use stations::{Found, StationSet};
 
 // What the holding question replies.
-#[derive(Drop)]
+#[derive(Clone, Copy)]
 pub enum Answer {
     Holds,
     Few,
@@ -17,7 +19,7 @@ pub enum Answer {
 }
 
 // A verdict with some loss that parts the set, not the smallest and first: one search.
-#[derive(Drop)]
+#[derive(Clone, Copy)]
 pub enum Judged {
     Holds,
     Few,

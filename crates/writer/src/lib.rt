@@ -1,4 +1,6 @@
 // The writer of survey files. Every refusal is decided before the first store.
+#![tactic(auto)]
+
 ghost use Rattle.std.specs.Prelude.{◌≡◌};
 ghost use Rattle.writer.specs.Reply.{number, file_length, Writes};
 
@@ -7,7 +9,7 @@ use card::{Refusal, Tested};
 mod judge;
 mod put;
 
-#[derive(Drop)]
+#[derive(Clone, Copy)]
 pub enum WriteAnswer {
     Written(usize),
     Refused(Refusal),

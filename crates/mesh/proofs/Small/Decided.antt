@@ -3,19 +3,19 @@
 use mathlib.Core.Path.{◌≡◌, refl, sym, ◌∙◌, ap, subst, fun_ext}
 use mathlib.Core.Logic.{◌⊎◌, inl, inr}
 use mathlib.Core.Bool.{Bool, true, false, not, ◌&&◌, ◌||◌, true≢false, false≢true}
-use Prim.Native.Nat.{ℕ, zero, suc, ◌+◌, ◌≤◌, ◌<◌}
+use Prim.Native.Nat.{ℕ, zero, suc, ◌≤◌, ◌<◌}
 use native.Mathlib.Omega.{arith}
 use native.Mathlib.Decide.{dec_le, dec_lt, ℕ_discrete}
 use lib.Dec.{eqb, ltb}
 use borrow.Author.Tests.{eqb-true, eq-eqb, ne_eqb, ltb-true, lt-ltb}
 use Rattle.stations.specs.Sets.{Set, ◌is_in◌, ◌not_in◌, ◌part_of◌, none, only, ◌without◌, ◌cut◌, ◌joined◌, Below, stations, Before, size, one_if}
-use Rattle.mesh.specs.Mesh.{Links, Mesh, Touch, here, step, Whole, Holds, Weak, WeakSet, Groups, Listed}
+use Rattle.mesh.specs.Mesh.{Links, Mesh, Touch, here, Whole, Holds, Weak, WeakSet, Groups}
 use Rattle.mesh.proofs.Small.Decide.{guard, choose, any, each, memo, grow, reach, pick, wholeb, every, every_part, holdsb, subb, not_afterb, weak_setb, groupsb}
 use Rattle.mesh.proofs.Rows.{rows}
 use Rattle.stations.proofs.Bools.{test, never, and_left, and_right, and_in, or_cases, or_left, or_right, not_true}
-use Rattle.stations.proofs.Members.{of_without, in_without, same_set, only_is, is_only, not_only}
-use Rattle.stations.proofs.Counting.{size_le, size-sub, size-only, size_mono, size_disjoint, full, none_of, least}
-use Rattle.mesh.proofs.Chains.{touch_link, touch_join, touch_back, closed_touch, touch_end}
+use Rattle.stations.proofs.Members.{of_without, in_without, same_set, only_is, is_only}
+use Rattle.stations.proofs.Counting.{size_le, size-sub, size-only, size_mono, full, none_of, least}
+use Rattle.mesh.proofs.Chains.{touch_link, touch_join, touch_back, closed_touch}
 
 -- any, each
 

@@ -1,13 +1,13 @@
 -- Definitions that the other theorems hold from one side only, held from the other by examples that are computed.
 --   five_divided, five_needs, five_room    the five stations divided by {2}: two pieces of three, which need two rows at level 2, and R is 2
 --   alone_not_one, linked_not_none         a station alone does not stand at 1, and one of two linked stations does not stand at 0
-use mathlib.Core.Bool.{Bool, true, false, not, ◌&&◌, ◌||◌}
+use mathlib.Core.Bool.{Bool, true, not, ◌&&◌, ◌||◌}
 use mathlib.Core.List.{List, [], ◌∷◌}
 use mathlib.Core.Logic.{◌⊎◌, inl, inr}
 use mathlib.Core.Path.{◌≡◌, refl}
-use Prim.Native.Nat.{ℕ, zero, suc, ◌<◌}
+use Prim.Native.Nat.{ℕ, ◌<◌}
 use native.Mathlib.Omega.{arith}
-use lib.Dec.{eqb, ltb}
+use lib.Dec.{eqb}
 use borrow.Author.Tests.{eqb-true, ltb-true}
 use Rattle.stations.specs.Sets.{Set, ◌is_in◌, ◌part_of◌, ◌without◌, ◌joined◌, Below, only, stations, size}
 use Rattle.stations.proofs.Bools.{never, and_left, and_right, and_in, or_cases, not_true}

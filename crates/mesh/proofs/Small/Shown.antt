@@ -1,5 +1,5 @@
 -- The table of small meshes, shown from the definitions: one test over all its lines, computed, and one law that turns it into what they state.
-use mathlib.Core.Path.{◌≡◌, refl, sym, ◌∙◌, ap}
+use mathlib.Core.Path.{◌≡◌, refl, sym, ◌∙◌}
 use mathlib.Core.Logic.{◌⊎◌, inl, inr}
 use mathlib.Core.Bool.{Bool, true, false, not, ◌&&◌, ◌||◌, true≢false, false≢true}
 use mathlib.Core.List.{List, [], ◌∷◌}
@@ -14,8 +14,7 @@ use Rattle.mesh.specs.Mesh.{Links, Mesh, Group, Groups, Listed, WEAK, Answers}
 use Rattle.mesh.specs.Standing.{Standing}
 use Rattle.mesh.proofs.Small.Decide.{guard, any, each, memo, grow, reach, pick, wholeb, every, every_part, holdsb, subb, not_afterb, weak_setb, groupsb}
 use Rattle.mesh.specs.SmallMeshes.{set_of, Link, ◌–◌, links_of, row_of, Line, holds, few, weak, groups, stands, Right, All, five, ring, four, fours, six, triangles, table}
-use Rattle.stations.proofs.Bools.{test, never, and_left, and_right, and_in, or_cases, or_left, or_right, not_true}
-use Rattle.stations.proofs.Members.{only_is}
+use Rattle.stations.proofs.Bools.{test, never, and_left, and_right, or_cases, not_true}
 use Rattle.stations.proofs.Counting.{size_le}
 use Rattle.mesh.proofs.Small.Decided.{each_out, guard_out, every_sound, holds_sound, holds_complete, weak_set_sound, groups_sound, not_after}
 use Rattle.mesh.proofs.Pruning.{level_down}

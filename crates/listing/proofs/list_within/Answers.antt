@@ -1,0 +1,62 @@
+use mathlib.Core.Path.{◌≡◌, refl}
+use Prim.Native.Nat.{◌+◌, ◌-◌, ◌/◌, ◌<◌}
+use native.Mathlib.Omega.{arith}
+use Rattle.stations.specs.Sets.{Set, size}
+use Rattle.stations.specs.Words.{members}
+use Rattle.mesh.proofs.Bound.{weight}
+use Rattle.listing.specs.List.{Asked}
+use Rattle.listing.specs.Rows.{Kept, Stored}
+use Rattle.listing.specs.Steps.{State}
+use Rattle.listing.proofs.Lists.{put_set}
+use Rattle.listing.proofs.Ending.{nothing, first_room, begun, clear_room, sort_room, ended}
+use Rattle.listing.proofs.list_within.Goals.{After-gather-found, After-put_row, Else-n-k}
+use Rattle.listing.proofs.list_within.Goals as goal
+
+-- `listing::list_within` meets its contract.
+module _ (c : Else-n-k) where
+  abbrev D : Set
+  D = members c.args.set
+
+  asked : Asked c.args.table.now D c.args.k c.args.list.now
+  asked = c.requires
+
+  large : c.args.k < size 256 D
+  large = omega (arith, c.if-n-k.false, c.size-n.ensures)
+
+  -- the rows that there is room for
+  most : (c.size-n.result - c.args.k + 1) / 2 ≡ weight c.args.k (size 256 D)
+  most = omega (arith, large, c.size-n.ensures)
+
+stored : (c : After-put_row) → Stored c.args.list.now 0 (D (goal.at.After-put_row c).Else-n-k) c.put_row.new.t
+stored c = put_set c.args.set refl (first_room (asked (goal.at.After-put_row c).Else-n-k) (large (goal.at.After-put_row c).Else-n-k)) c.put_row.ensures
+
+gathered : (c : After-gather-found) →
+    let e = (goal.at.After-gather-found c).Else-n-k in let a = c.args in let w = weight a.k (size 256 (D e)) in
+    State a.table.now a.k w (D e) c.gather-found.new.list c.gather-found.result c.gather-found.result × Kept w c.put_row.new.t c.gather-found.new.list
+gathered c =
+    let e = (goal.at.After-gather-found c).Else-n-k in
+    c.gather-found.ensures _ _ (begun (asked e) (large e) (stored (goal.at.After-gather-found c).After-put_row))
+
+pub returns-then-n-k : goal.returns-then-n-k
+returns-then-n-k c = nothing c.requires (omega (arith, c.if-n-k.true, c.size-n.ensures))
+
+pub gather-found-requires : goal.gather-found-requires
+gather-found-requires c = (_, _, begun (asked (goal.at.gather-found-requires c).Else-n-k) (large (goal.at.gather-found-requires c).Else-n-k) (stored (goal.at.gather-found-requires c).After-put_row))
+
+pub clear-requires : goal.clear-requires
+clear-requires c =
+    let e = (goal.at.clear-requires c).Else-n-k in
+    let q = (goal.at.clear-requires c).After-gather-found in
+    clear_room (asked e) (large e) (stored (goal.at.clear-requires c).After-put_row) (gathered q).0 (gathered q).1 _ (most e)
+
+pub sort-requires : goal.sort-requires
+sort-requires c =
+    let e = (goal.at.sort-requires c).Else-n-k in
+    let q = (goal.at.sort-requires c).After-gather-found in
+    sort_room (asked e) (large e) (stored (goal.at.sort-requires c).After-put_row) (gathered q).0 (gathered q).1 (most e) c.clear.ensures
+
+pub returns : goal.returns
+returns c =
+    let e = (goal.at.returns c).Else-n-k in
+    let q = (goal.at.returns c).After-gather-found in
+    ended (asked e) (large e) (stored (goal.at.returns c).After-put_row) (gathered q).0 (gathered q).1 (most e) c.clear.ensures c.sort.ensures

@@ -1,0 +1,6 @@
+use Rattle.writer.proofs.File.{file_put}
+use Rattle.writer.proofs.put.put_file.Goals as goal
+
+pub returns : goal.returns
+returns c = let s = c.args in
+    file_put s.n s.m _ s.table.now c.put_head.ensures c.put_serials.ensures c.put_links.ensures
