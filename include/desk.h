@@ -28,11 +28,11 @@
  *
  * STACK. The questions need stack: some kilobytes, and desk_night_list about 17. bench/RESULTS.md has the figures; they are measured, not proved.
  *
- * TO BUILD. `rt staticlib desk` proves and writes target/staticlib/libdesk.a, for programs on x86-64 Linux:
+ * TO BUILD. `tools/proved library` proves and writes target/staticlib/libdesk.a, for programs on x86-64 Linux:
  *
  *     cc -I include program.c target/staticlib/libdesk.a -o program
  *
- * On Arm too the library is one for x86-64: the program is compiled for x86-64 and run with the kit's emulator. examples/README.md has the recipe.
+ * On Arm too the library is one for x86-64: the program is compiled for x86-64 and run with an emulator. examples/README.md has the recipe.
  */
 #ifndef DESK_H
 #define DESK_H

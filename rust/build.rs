@@ -2,7 +2,7 @@
 //! into its src.
 //!
 //! The library is libdesk.a in the folder that `DESK_LIB_DIR` names, or in `lib` beside Cargo.toml where nothing is named. A
-//! folder that does not begin at the root is taken from Cargo.toml's. `rt staticlib desk` writes the library, as
+//! folder that does not begin at the root is taken from Cargo.toml's. `tools/proved library` writes the library, as
 //! target/staticlib/libdesk.a of the desk's project.
 
 use std::env;
@@ -24,7 +24,7 @@ fn main() {
     println!("cargo:rerun-if-changed={}", library.display());
     if !library.is_file() {
         eprintln!("There is no {}.", library.display());
-        eprintln!("`rt staticlib desk` makes it, in the desk's project, as target/staticlib/libdesk.a. Name its folder in");
+        eprintln!("`tools/proved library` makes it, in the desk's project, as target/staticlib/libdesk.a. Name its folder in");
         eprintln!("DESK_LIB_DIR, or copy it to lib/libdesk.a beside Cargo.toml.");
         exit(1);
     }

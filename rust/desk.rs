@@ -14,7 +14,7 @@
 //! rustc --edition 2024 -L target/staticlib -l static=desk program.rs
 //! ```
 //!
-//! It is written for edition 2024, and edition 2021 takes it too. `rt staticlib desk` makes the library, for x86-64 Linux;
+//! It is written for edition 2024, and edition 2021 takes it too. `tools/proved library` makes the library, for x86-64 Linux;
 //! for another processor a program with this module can be checked and not linked.
 //!
 //! Every question takes every input, replies, and ends. The library tests all lengths and numbers itself, so nothing is

@@ -88,7 +88,7 @@ STATION n a = record { refusal = 7; fails = n ≤ a }
 abbrev pub PAIR : ℕ → ℕ → ℕ → Test
 PAIR n a b = record { refusal = 7; fails = (n ≤ a) ⊎ (n ≤ b) ⊎ (a ≡ b) }
 
--- 15: some division needs more than R rows (rule L11); it never fails (rows-pass)
+-- 15: some division needs more than R rows (rule L11); it never fails (rows_pass)
 abbrev pub ROWS : ℕ → List ℕ → ℕ → Test
 ROWS n t k = record { refusal = 15; fails = (Ps : List sets.Set) × Dividing (linked t) n k Ps × (R n k < needed n k Ps) }
 

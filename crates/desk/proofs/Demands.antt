@@ -13,18 +13,18 @@ use Rattle.stations.proofs.Laws.{Wide, wide_four, none_four, members_same}
 use Rattle.card.specs.Card.{Test, FirstFailing}
 use Rattle.records.specs.Lines.{reader_order, writer_order}
 use Rattle.routes.specs.declared.Answer as routed
-use Rattle.routes.specs.declared.Answer.TheVariants as routed-as
+use Rattle.routes.specs.declared.Answer.TheVariants as routed_as
 use Rattle.routes.specs.Reply as routes
 use Rattle.holding.specs.declared.Answer as held
-use Rattle.holding.specs.declared.Answer.TheVariants as held-as
+use Rattle.holding.specs.declared.Answer.TheVariants as held_as
 use Rattle.holding.specs.declared.Brief as briefly
-use Rattle.holding.specs.declared.Brief.TheVariants as briefly-as
+use Rattle.holding.specs.declared.Brief.TheVariants as briefly_as
 use Rattle.holding.specs.Reply as holding
 use Rattle.groups.specs.declared.Answer as grouped
-use Rattle.groups.specs.declared.Answer.TheVariants as grouped-as
+use Rattle.groups.specs.declared.Answer.TheVariants as grouped_as
 use Rattle.groups.specs.Reply as groups
 use Rattle.standings.specs.declared.Answer as stood
-use Rattle.standings.specs.declared.Answer.TheVariants as stood-as
+use Rattle.standings.specs.declared.Answer.TheVariants as stood_as
 use Rattle.standings.specs.Reply as standings
 use Rattle.reader.specs.declared.ReadAnswer.{ReadAnswer}
 use Rattle.reader.specs.declared.ReadAnswer.TheVariants as read_as
@@ -33,7 +33,7 @@ use Rattle.writer.specs.declared.WriteAnswer.{WriteAnswer}
 use Rattle.writer.specs.declared.WriteAnswer.TheVariants as written_as
 use Rattle.writer.specs.Reply as writer
 use Rattle.page.specs.declared.PageAnswer.{PageAnswer}
-use Rattle.page.specs.declared.PageAnswer.TheVariants as printed-as
+use Rattle.page.specs.declared.PageAnswer.TheVariants as printed_as
 use Rattle.page.specs.Reply as page
 use Rattle.desk.specs.Desk.{Refuses, RoutesDesk, HoldingDesk, VerdictDesk, ListDesk, StationDesk, PairDesk, ReadDesk, WriteDesk, PageDesk}
 
@@ -47,9 +47,9 @@ routes_refuses n t a b r joined count p =
     refuses (routes.order n t a b) r (routes.number p.answer) p.number p.replies.refused (λ d. let (x, y) = left p.answer d in (p.linked_pair ∙ x, p.counted ∙ y))
   where
     left : (x : routed.Answer) → ¬ (routes.number x ≡ 0) → (one_if (routes.joined x) ≡ 0) × (routes.count x ≡ 0)
-    left (routed-as.Counted c) d = absurd (d refl)
-    left routed-as.Joined d = absurd (d refl)
-    left (routed-as.Refused x) d = (refl, refl)
+    left (routed_as.Counted c) d = absurd (d refl)
+    left routed_as.Joined d = absurd (d refl)
+    left (routed_as.Refused x) d = (refl, refl)
 
 -- 2, 3, 4, 1, 6; the four words are words of 64 bits (Wide), which their type says
 pub holding_refuses : (n : ℕ) (t : List ℕ) (k : ℕ) (s : List ℕ) (r verdict w0 w1 w2 w3 : ℕ) → HoldingDesk n t k s r verdict w0 w1 w2 w3 → Wide (w0 ∷ w1 ∷ w2 ∷ w3 ∷ [])
@@ -58,10 +58,10 @@ holding_refuses n t k s r verdict w0 w1 w2 w3 p wide =
     refuses (holding.order n t k s) r (holding.number p.answer) p.number p.replies.refused (λ d. let (x, y) = left p.answer d in (p.told ∙ x, words (λ j. p.weak j ∙ ap (λ (z : Set). z j) y)))
   where
     left : (x : held.Answer) → ¬ (holding.number x ≡ 0) → (holding.verdict x ≡ 0) × (holding.weak_set x ≡ none)
-    left held-as.Holds d = absurd (d refl)
-    left held-as.Few d = absurd (d refl)
-    left (held-as.Weak x) d = absurd (d refl)
-    left (held-as.Refused x) d = (refl, refl)
+    left held_as.Holds d = absurd (d refl)
+    left held_as.Few d = absurd (d refl)
+    left (held_as.Weak x) d = absurd (d refl)
+    left (held_as.Refused x) d = (refl, refl)
 
     words : ((j : ℕ) → has (w0 ∷ w1 ∷ w2 ∷ w3 ∷ []) j ≡ false) → ◌≡◌ {A = List ℕ} (w0 ∷ w1 ∷ w2 ∷ w3 ∷ []) (0 ∷ 0 ∷ 0 ∷ 0 ∷ [])
     words z = members_same (w0 ∷ w1 ∷ w2 ∷ w3 ∷ []) (0 ∷ 0 ∷ 0 ∷ 0 ∷ []) refl refl wide (wide_four 0 0 0 0 (lit< tt) (lit< tt) (lit< tt) (lit< tt)) (λ j. z j ∙ sym (none_four 0 0 0 0 refl refl refl refl j))
@@ -72,10 +72,10 @@ verdict_refuses n t k s r verdict p =
     refuses (holding.order n t k s) r (holding.brief_number p.brief) p.number p.replies.refused (λ d. p.told ∙ left p.brief d)
   where
     left : (x : briefly.Brief) → ¬ (holding.brief_number x ≡ 0) → holding.brief_verdict x ≡ 0
-    left briefly-as.Holds d = absurd (d refl)
-    left briefly-as.Few d = absurd (d refl)
-    left briefly-as.Weak d = absurd (d refl)
-    left (briefly-as.Refused x) d = refl
+    left briefly_as.Holds d = absurd (d refl)
+    left briefly_as.Few d = absurd (d refl)
+    left briefly_as.Weak d = absurd (d refl)
+    left (briefly_as.Refused x) d = refl
 
 -- 2, 3, 4, 1, 5, 15: the list stays
 pub list_refuses : (n : ℕ) (t : List ℕ) (k : ℕ) (l l' : List ℕ) (r count : ℕ) → ListDesk n t k l l' r count → Refuses (groups.order n t k (length l)) r ((count ≡ 0) × (l' ≡ l))
@@ -83,13 +83,13 @@ list_refuses n t k l l' r count p =
     refuses (groups.order n t k (length l)) r (groups.number p.answer) p.number p.replies.refused (λ d. (p.counted ∙ left p.answer d, p.replies.kept d))
   where
     left : (x : grouped.Answer) → ¬ (groups.number x ≡ 0) → groups.count x ≡ 0
-    left (grouped-as.Groups g) d = absurd (d refl)
-    left (grouped-as.Refused x) d = refl
+    left (grouped_as.Groups g) d = absurd (d refl)
+    left (grouped_as.Refused x) d = refl
 
 -- 2, 3, 4, 7, 15
 stood_left : (x : stood.Answer) → ¬ (standings.number x ≡ 0) → standings.level x ≡ 0
-stood_left (stood-as.Stands v) d = absurd (d refl)
-stood_left (stood-as.Refused x) d = refl
+stood_left (stood_as.Stands v) d = absurd (d refl)
+stood_left (stood_as.Refused x) d = refl
 
 pub station_refuses : (n : ℕ) (t : List ℕ) (a r standing : ℕ) → StationDesk n t a r standing → Refuses (standings.station_order n t a) r (standing ≡ 0)
 station_refuses n t a r standing p =
@@ -126,5 +126,5 @@ page_refuses bs p p' r count x =
     refuses (page.PAGE_ROOM (length p) ∷ []) r (page.number x.answer) x.number x.replies.refused (λ d. (x.of_length ∙ left x.answer d, x.replies.kept d))
   where
     left : (y : PageAnswer) → ¬ (page.number y ≡ 0) → page.page_length y ≡ 0
-    left (printed-as.Printed l) d = absurd (d refl)
-    left (printed-as.Refused y) d = refl
+    left (printed_as.Printed l) d = absurd (d refl)
+    left (printed_as.Refused y) d = refl

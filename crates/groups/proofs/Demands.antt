@@ -18,7 +18,7 @@ use Rattle.card.proofs.TableTest.{table_mesh}
 use Rattle.holding.specs.declared.Answer as held
 use Rattle.holding.specs.declared.Answer.TheVariants.{Holds, Few, Weak, Refused}
 use Rattle.holding.specs.Reply as holding
-use Rattle.holding.proofs.Demands.{answers as holding-answers}
+use Rattle.holding.proofs.Demands.{answers as holding_answers}
 use Rattle.mesh.proofs.Covered.{covered}
 use Rattle.mesh.proofs.Sharing.{groups_share}
 use Rattle.mesh.proofs.Bound.{rows_weight}
@@ -91,7 +91,7 @@ listed_row_holds n t k l l' r p e i h a q = only a (q.inside inside)
     g = (p.listed e).groups.group i h
 
     answered : (a : held.Answer) → holding.Replies n t k (row l' i) a → holding.number a ≡ 0
-    answered a q = holding-answers n t k (row l' i) a q A.table A.above A.most refl g.holds.below
+    answered a q = holding_answers n t k (row l' i) a q A.table A.above A.most refl g.holds.below
 
     one : (x : Reply) → Answers (linked t) n k (has (row l' i)) x → x ≡ HOLDS
     one x b = answer_one (linked t) n k (has (row l' i)) x HOLDS b g.holds

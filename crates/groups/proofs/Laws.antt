@@ -19,7 +19,7 @@ use Rattle.card.specs.declared.Refusal.{Refusal}
 use Rattle.card.specs.Card.{FirstFailing, earlier, table_order, LEVEL, LIST_ROOM, ROWS}
 use Rattle.card.proofs.Card.{Passes, first_then, table_numbered, table_passed, number_above, rows_pass}
 use Rattle.card.proofs.TableTest.{table_mesh}
-use Rattle.holding.specs.declared.Answer as holding-answer
+use Rattle.holding.specs.declared.Answer as holding_answer
 use Rattle.holding.specs.Reply as holding
 use Rattle.listing.specs.List.{set_at, ListedIn, Asked, Listing}
 use Rattle.listing.proofs.Ending.{listed_groups}
@@ -115,12 +115,12 @@ four_words l f h =
     at : (g j : ℕ) → g ≡ j → j < length l → drop g l ≡ get_or l j 0 ∷ drop (suc j) l
     at g j e m = ap (λ (x : ℕ). drop x l) e ∙ drop-cons l j 0 m
 
-pub row_inside : (n : ℕ) (t : List ℕ) (k : ℕ) (l : List ℕ) (i : ℕ) (r : holding-answer.Answer) → i * 4 + 4 ≤ length l → holding.Replies n t k (take (i * 4 + 4 - i * 4) (drop (i * 4) l)) r
+pub row_inside : (n : ℕ) (t : List ℕ) (k : ℕ) (l : List ℕ) (i : ℕ) (r : holding_answer.Answer) → i * 4 + 4 ≤ length l → holding.Replies n t k (take (i * 4 + 4 - i * 4) (drop (i * 4) l)) r
     → RowReplies n t k l i r
 row_inside n t k l i r h p = record { inside = λ _. subst (λ (s : List ℕ). holding.Replies n t k s r) (ap (λ (m : ℕ). take m (drop (i * 4) l)) four ∙ four_words l (i * 4) h) p; outside = λ g. absurd (omega arith) }
   where
     four : i * 4 + 4 - i * 4 ≡ 4
     four = omega arith
 
-pub row_outside : (n : ℕ) (t : List ℕ) (k : ℕ) (l : List ℕ) (i : ℕ) (r : holding-answer.Answer) → length l < i * 4 + 4 → holding.Replies n t k [] r → RowReplies n t k l i r
+pub row_outside : (n : ℕ) (t : List ℕ) (k : ℕ) (l : List ℕ) (i : ℕ) (r : holding_answer.Answer) → length l < i * 4 + 4 → holding.Replies n t k [] r → RowReplies n t k l i r
 row_outside n t k l i r h p = record { inside = λ g. absurd (omega arith); outside = λ _. p }

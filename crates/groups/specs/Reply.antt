@@ -1,6 +1,6 @@
 -- The list question: its replies in the numbers of the rules, and when each is right. Rules L1 to L10 and H6.
 --   number r, count r         the refusal's number (0 where answered), the number of groups
---   order n t k words         2, 3, 4, 1, 5, 15; 15 never fails (card: rows-pass)
+--   order n t k words         2, 3, 4, 1, 5, 15; 15 never fails (card: rows_pass)
 --   Replies n t k l l' r      r is the reply, l the list before and l' the list after
 --   RowReplies n t k l i r    r is the reply to the holding question about row i of the list l
 use Rattle.std.specs.Prelude.{List, [], ◌∷◌, ◌≡◌, ℕ, ◌+◌, ◌*◌, ◌<◌, ◌≤◌, length, get_or}
@@ -9,7 +9,7 @@ use Rattle.mesh.specs.Mesh.{Listed, R}
 use Rattle.mesh.specs.Table.{linked}
 use Rattle.card.specs.Card.{Test, FirstFailing, STATIONS, TABLE_LENGTH, TABLE, LEVEL, LIST_ROOM, ROWS}
 use Rattle.listing.specs.List.{set_at}
-use Rattle.holding.specs.declared.Answer as holding-answer
+use Rattle.holding.specs.declared.Answer as holding_answer
 use Rattle.holding.specs.Reply as holding
 use Rattle.groups.specs.declared.Answer.{Answer}
 use Rattle.groups.specs.declared.Answer.TheVariants.{Groups, Refused}
@@ -39,6 +39,6 @@ pub record Replies (n : ℕ) (t : List ℕ) (k : ℕ) (l l' : List ℕ) (r : Ans
   pub long : length l' ≡ length l
 
 -- rule H6: row i of the list, asked about in its place; a row that the list does not have is no set
-pub record RowReplies (n : ℕ) (t : List ℕ) (k : ℕ) (l : List ℕ) (i : ℕ) (r : holding-answer.Answer) : Type 0 where
+pub record RowReplies (n : ℕ) (t : List ℕ) (k : ℕ) (l : List ℕ) (i : ℕ) (r : holding_answer.Answer) : Type 0 where
   pub inside : i * 4 + 4 ≤ length l → holding.Replies n t k (row l i) r
   pub outside : length l < i * 4 + 4 → holding.Replies n t k [] r

@@ -1,7 +1,7 @@
 -- The pieces of a listing within a set D, as a family of sets. Kept at each step: every set of D that holds lies in a piece, two pieces share
 -- fewer than k stations, the weights add up to at most that of D. The steps: begin with D; shrink a piece; split it in two; drop one of k stations
 -- or fewer. When each piece holds, the pieces are what was sought (found), and the groups where D is all stations (done). A piece parted by a loss
--- is split island by island (halves-..).
+-- is split island by island (halves_..).
 use mathlib.Core.Path.{◌≡◌, refl, ◌∙◌, ap, subst}
 use mathlib.Core.Logic.{◌⊎◌, inl, inr}
 use mathlib.Core.Bool.{true, false, cond}

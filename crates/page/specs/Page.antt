@@ -33,7 +33,7 @@ Last L n h = (h ≡ 16) ⊎ ((h < 16) × ((s : Set) → ¬ Group L n (suc h) s))
 abbrev pub survey_order : List ℕ → List Test
 survey_order bs = MARK bs ∷ VERSION bs ∷ COUNT bs ∷ LENGTH bs ∷ SERIAL (stations bs) bs ∷ LINK (stations bs) (records bs) bs ∷ []
 
--- Rule N4: the page of a refused survey is one line. No level is ever refused by 15 (card: rows-pass), so the line `refused 15` is on no page.
+-- Rule N4: the page of a refused survey is one line. No level is ever refused by 15 (card: rows_pass), so the line `refused 15` is on no page.
 pub data Page (bs : List ℕ) : List ℕ → Type 0 where
   refused : (r : ℕ) → FirstFailing (survey_order bs) r → 0 < r → Page bs (refused_line r)
   listed : {v n m h : ℕ} {serials table lines : List ℕ} → FirstFailing (survey_order bs) 0 → Survey v n m serials table bs

@@ -1,5 +1,5 @@
--- What the weak pair search tells of a piece, begun with all its stations as sources (weak-..), or with the links of a station that is taken out
--- (around-..).
+-- What the weak pair search tells of a piece, begun with all its stations as sources (weak_..), or with the links of a station that is taken out
+-- (around_..).
 use mathlib.Core.List.{List}
 use mathlib.Core.Path.{◌≡◌, refl, sym, ◌∙◌, ap, subst, subst₂, fun_ext}
 use Prim.Native.Nat.{ℕ, ◌+◌}

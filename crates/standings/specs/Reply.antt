@@ -15,7 +15,7 @@ abbrev pub level : Answer → ℕ
 level (Stands v) = v
 level (Refused r) = 0
 
--- 15 of the lists at the levels 1 to 16 (it never fails: card, rows-pass)
+-- 15 of the lists at the levels 1 to 16 (it never fails: card, rows_pass)
 abbrev pub ROWS_AT_ALL : ℕ → List ℕ → Test
 ROWS_AT_ALL n t = record { refusal = 15; fails = (k : ℕ) × (1 ≤ k) × (k ≤ 16) × (ROWS n t k).fails }
 

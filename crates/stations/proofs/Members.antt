@@ -1,4 +1,4 @@
--- Who is in a set made of others: in-.. puts a station in, of-.. says what it tells that one is in, off-.. keeps one out.
+-- Who is in a set made of others: in_.. puts a station in, of_.. says what it tells that one is in, off_.. keeps one out.
 -- Sets that contain each other are equal (same_set).
 use mathlib.Core.Bool.{Bool, true, false, not, ◌&&◌}
 use mathlib.Core.Logic.{◌≢◌, ◌⊎◌}

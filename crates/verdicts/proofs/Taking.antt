@@ -1,4 +1,4 @@
--- The first of the smallest losses, over sets by value: how a station is tried (led-..), and the turns of the loop that takes stations (take-..).
+-- The first of the smallest losses, over sets by value: how a station is tried (led_..), and the turns of the loop that takes stations (take_..).
 use mathlib.Core.List.{List}
 use mathlib.Core.Path.{◌≡◌, refl, sym, ◌∙◌, subst, subst₂, fun_ext}
 use Prim.Native.Nat.{ℕ, ◌+◌, ◌-◌, ◌<◌, ◌≤◌}

@@ -1,4 +1,4 @@
--- The tests of Decide say what the definitions say: ..-sound (a test that passes shows its fact) and ..-complete (a fact makes its test pass).
+-- The tests of Decide say what the definitions say: .._sound (a test that passes shows its fact) and .._complete (a fact makes its test pass).
 -- A chain inside s below n has a shorter one of at most n links, so reach, which grows n times, finds every station in touch.
 use mathlib.Core.Path.{◌≡◌, refl, sym, ◌∙◌, ap, subst, fun_ext}
 use mathlib.Core.Logic.{◌⊎◌, inl, inr}

@@ -21,14 +21,14 @@ module _ (c : At-pairs) where
   mesh = c.requires.piece.mesh
 
   -- a station of q has its row
-  has-row : (x : ℕ) → x is_in members c.pairs.q → x * 4 + 4 ≤ length c.args.table.now
-  has-row x g = c.requires.piece.fits x (c.pairs.invariant.peeled.part x g)
+  has_row : (x : ℕ) → x is_in members c.pairs.q → x * 4 + 4 ≤ length c.args.table.now
+  has_row x g = c.requires.piece.fits x (c.pairs.invariant.peeled.part x g)
 
-  u-in : c.pairs.u is_in members c.pairs.q
-  u-in = source_in mesh c.pairs.invariant
+  u_in : c.pairs.u is_in members c.pairs.q
+  u_in = source_in mesh c.pairs.invariant
 
-  u-small : c.pairs.u < 256
-  u-small = has_small _ _ refl u-in
+  u_small : c.pairs.u < 256
+  u_small = has_small _ _ refl u_in
 
 -- ---- a station v is tried
 module _ (c : In-At) where
@@ -38,8 +38,8 @@ module _ (c : In-At) where
   least : Least (members c.loop-v.left) v
   least = subst (FirstOf (members c.loop-v.left)) c.in-At.is c.first-f.ensures
 
-  v-in : v is_in members c.pairs.q
-  v-in = c.loop-v.invariant.0.inside v least.mine
+  v_in : v is_in members c.pairs.q
+  v_in = c.loop-v.invariant.0.inside v least.mine
 
 -- the flow goes inside q without u and v
 inside : (c : After-without-inner) (x : ℕ)
@@ -70,10 +70,10 @@ pub pairs-init : goal.pairs-init
 pairs-init c = open_begin _ _ _ _ _ _ c.requires
 
 pub of_row-requires : goal.of_row-requires
-of_row-requires c = has-row (goal.at.of_row-requires c).At-pairs _ (u-in (goal.at.of_row-requires c).At-pairs)
+of_row-requires c = has_row (goal.at.of_row-requires c).At-pairs _ (u_in (goal.at.of_row-requires c).At-pairs)
 
 pub with-known-requires : goal.with-known-requires
-with-known-requires c = u-small (goal.at.with-known-requires c).At-pairs
+with-known-requires c = u_small (goal.at.with-known-requires c).At-pairs
 
 pub loop-v-init : goal.loop-v-init
 loop-v-init c =
@@ -84,7 +84,7 @@ loop-v-init c =
     )
 
 pub without-requires : goal.without-requires
-without-requires c = u-small (goal.at.without-requires c).At-pairs
+without-requires c = u_small (goal.at.without-requires c).At-pairs
 
 pub without-inner-requires : goal.without-inner-requires
 without-inner-requires c = (least (goal.at.without-inner-requires c).In-At).small
@@ -92,13 +92,13 @@ without-inner-requires c = (least (goal.at.without-inner-requires c).In-At).smal
 pub of_row-requires-in-At : goal.of_row-requires-in-At
 of_row-requires-in-At c =
     let k = (goal.at.of_row-requires-in-At c).In-At in
-    has-row (goal.at.of_row-requires-in-At c).At-pairs (v k) (v-in k)
+    has_row (goal.at.of_row-requires-in-At c).At-pairs (v k) (v_in k)
 
 pub flow-r-requires : goal.flow-r-requires
 flow-r-requires c =
     let k = (goal.at.flow-r-requires c).In-At in
     let a = (goal.at.flow-r-requires c).At-pairs in
-    λ x g. has-row a x (inner_in (members a.pairs.q) a.pairs.u (v k) x (sym (inside (goal.at.flow-r-requires c).After-without-inner x) ∙ g))
+    λ x g. has_row a x (inner_in (members a.pairs.q) a.pairs.u (v k) x (sym (inside (goal.at.flow-r-requires c).After-without-inner x) ∙ g))
 
 pub with-known-requires-in-Many : goal.with-known-requires-in-Many
 with-known-requires-in-Many c = (least (goal.at.with-known-requires-in-Many c).In-At).small
@@ -123,10 +123,10 @@ loop-v-preserved c =
     )
 
 pub without-q-requires : goal.without-q-requires
-without-q-requires c = u-small (goal.at.without-q-requires c).At-pairs
+without-q-requires c = u_small (goal.at.without-q-requires c).At-pairs
 
 pub without-requires-in-pairs : goal.without-requires-in-pairs
-without-requires-in-pairs c = u-small (goal.at.without-requires-in-pairs c).At-pairs
+without-requires-in-pairs c = u_small (goal.at.without-requires-in-pairs c).At-pairs
 
 pub pairs-smaller : goal.pairs-smaller
 pairs-smaller c = omega (arith, some (goal.at.pairs-smaller c).After-fewer-sources)

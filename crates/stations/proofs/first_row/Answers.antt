@@ -23,17 +23,17 @@ module _ (c : After-first-f) where
   abbrev d : Set
   d = members c.differ.result
 
-  long-x : length x ≡ 4
-  long-x = c.if-x-ne4.false
+  long_x : length x ≡ 4
+  long_x = c.if-x-ne4.false
 
-  long-y : length y ≡ 4
-  long-y = c.if-y-ne4.false
+  long_y : length y ≡ 4
+  long_y = c.if-y-ne4.false
 
   mine : words c.of_row-u.result ≡ x
-  mine = c.of_row-u.ensures ∙ row_whole x long-x
+  mine = c.of_row-u.ensures ∙ row_whole x long_x
 
   theirs : words c.of_row-v.result ≡ y
-  theirs = c.of_row-v.ensures ∙ row_whole y long-y
+  theirs = c.of_row-v.ensures ∙ row_whole y long_y
 
   law : (j : ℕ) → d j ≡ xor (has x j) (has y j)
   law j = c.differ.ensures j ∙ ap₂ (λ (p q : List ℕ). xor (has p j) (has q j)) mine theirs
@@ -44,7 +44,7 @@ returns-then-has c =
     let j : ℕ = c.in-At.j in
     let l : Least (d e) j = subst (FirstOf (d e)) c.in-At.is c.first-f.ensures in
     let h : has (x e) j ≡ true = ap (λ (p : List ℕ). has p j) (sym (mine e)) ∙ sym c.has.ensures ∙ c.if-has.true in
-    row_first _ _ (long-x e) (long-y e) (before_not_after (has (x e)) (has (y e)) (before_mine (has (x e)) (has (y e)) (d e) (law e) j l h))
+    row_first _ _ (long_x e) (long_y e) (before_not_after (has (x e)) (has (y e)) (before_mine (has (x e)) (has (y e)) (d e) (law e) j l h))
 
 pub returns-else-has : goal.returns-else-has
 returns-else-has c =
@@ -52,10 +52,10 @@ returns-else-has c =
     let j : ℕ = c.in-At.j in
     let l : Least (d e) j = subst (FirstOf (d e)) c.in-At.is c.first-f.ensures in
     let h : has (x e) j ≡ false = ap (λ (p : List ℕ). has p j) (sym (mine e)) ∙ sym c.has.ensures ∙ c.if-has.false in
-    row_second _ _ (long-x e) (long-y e) (before_theirs (has (x e)) (has (y e)) (d e) (law e) j l h)
+    row_second _ _ (long_x e) (long_y e) (before_theirs (has (x e)) (has (y e)) (d e) (law e) j l h)
 
 pub returns-in-Nothing : goal.returns-in-Nothing
 returns-in-Nothing c =
     let e = (goal.at.returns-in-Nothing c).After-first-f in
     let z : (j : ℕ) → d e j ≡ false = subst (FirstOf (d e)) c.in-Nothing.is c.first-f.ensures in
-    row_first _ _ (long-x e) (long-y e) (λ b. before_differs (has (y e)) (has (x e)) b (λ j. sym (xor_eq (has (x e) j) (has (y e) j) (sym (law e j) ∙ z j))))
+    row_first _ _ (long_x e) (long_y e) (λ b. before_differs (has (y e)) (has (x e)) b (λ j. sym (xor_eq (has (x e) j) (has (y e) j) (sym (law e j) ∙ z j))))
