@@ -1,7 +1,7 @@
 -- The reader and the writer have one reply each: two that the contract allows are the same, refused or not, and so are the buffers afterwards.
 use mathlib.Core.List.{List, ◌++◌}
 use mathlib.Core.Path.{◌≡◌, refl, sym, ap, ap₂, ◌∙◌}
-use Prim.Native.Nat.{ℕ, ◌+◌, ◌*◌}
+use Prim.Native.Nat.{ℕ, ◌*◌}
 use lib.ListN.{length, take, drop, take-append-drop}
 use Rattle.card.proofs.Card.{first_one, refusal_one, number_above}
 use Rattle.records.specs.Lines.{reader_order, writer_order}
