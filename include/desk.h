@@ -26,7 +26,8 @@
  * Calls in several threads at once meet only in what they are lent: they may share what is lent for reading, while nothing writes it. The proofs
  * speak of one call by itself.
  *
- * STACK. The questions need stack: some kilobytes, and desk_night_list about 17. bench/RESULTS.md has the figures; they are measured, not proved.
+ * STACK. The questions need stack: some kilobytes, and desk_night_list about 17. bench/RESULTS.md has the figures; they are measured (with
+ * the kit before this one), not proved.
  *
  * TO BUILD. `tools/proved library` proves and writes target/staticlib/libdesk.a, for programs on x86-64 Linux:
  *
