@@ -4,13 +4,12 @@
 use mathlib.Core.Bool.{Bool, true, false, ◌||◌}
 use mathlib.Core.Logic.{⊎_elim}
 use mathlib.Core.Path.{◌≡◌, refl, sym, ap, ◌∙◌, subst}
-use Prim.Native.Nat.{ℕ, ◌<◌}
+use Prim.Native.Nat.{ℕ, ◌<◌, ◌≤◌}
 use native.Mathlib.Omega.{arith}
-use Rattle.stations.specs.Sets.{Set, ◌is_in◌, ◌not_in◌, ◌part_of◌, only, ◌without◌, ◌cut◌, ◌joined◌, size}
-use Rattle.stations.specs.Answers.{Least}
-use Rattle.stations.proofs.Bools.{test, never, or_cases, or_left, or_right, or_off}
-use Rattle.stations.proofs.Members.{in_without, of_without, in_cut, of_cut, in_less, only_is, is_only}
-use Rattle.stations.proofs.Counting.{size-sub, size_minus_one}
+use Rattle.stations.specs.Sets.{Set, ◌is_in◌, ◌not_in◌, ◌part_of◌, only, ◌without◌, ◌cut◌, ◌joined◌, Below, size}
+use Rattle.stations.proofs.Bools.{test, never, not_so, or_cases, or_left, or_right, or_off}
+use Rattle.stations.proofs.Members.{in_without, of_without, in_cut, of_cut, only_is, is_only}
+use Rattle.stations.proofs.Counting.{full}
 use Rattle.mesh.specs.Mesh.{Links, Touch, here}
 use Rattle.mesh.proofs.Chains.{touch_start, touch_end, touch_link, closed_touch}
 use Rattle.touch.specs.Reach.{Island, Spread}
@@ -69,21 +68,20 @@ module _ (L : Links) (s : Set) (a : ℕ) (r p u n r' : Set) (g : Grown L s a r p
   pub wave_more : Grown L s a r' n
   wave_more = record { sound = sound; began = lr a ∙ or_left (r a) (n a) g.began; waits = λ x e. lr x ∙ or_right (r x) (n x) e; closed = closed }
 
-  -- fewer stations of the set are left to reach
-  pub wave_fewer : (j : ℕ) → Least n j → size 256 (s without r') < size 256 (s without r)
-  wave_fewer j l =
-      let (i, js, jr) = new j l.mine in
-      omega (
-        arith,
-        size-sub 256 (s without r') ((s without r) without only j) part,
-        size_minus_one 256 (s without r) j l.small (in_without s r j js jr),
-      )
+  -- fewer stations of the set are left to reach, where the wave has some
+  pub wave_fewer : Below 256 s → (((x : ℕ) → x not_in n) → ⊥) → size 256 (s without r') < size 256 (s without r)
+  wave_fewer b some = omega (arith, whole)
     where
-      part : s without r' part_of (s without r) without only j
+      part : s without r' part_of s without r
       part x e =
           let (i, o) = of_without s r' x e in
-          let (q, v) = or_off (r x) (n x) (sym (lr x) ∙ o) in
-          in_less (s without r) j x (in_without s r x i q) (λ h. never (n x) (ap n h ∙ l.mine) v)
+          in_without s r x i (or_off (r x) (n x) (sym (lr x) ∙ o)).0
+
+      whole : size 256 (s without r) ≤ size 256 (s without r') → ⊥
+      whole q = some (λ x. not_so (n x) (λ e.
+          let (_, i, o) = new x e in
+          let (_, o') = of_without s r' x (full 256 (s without r') (s without r) (λ y h. b y (of_without s r y h).0) part q x (in_without s r x i o)) in
+          never (r' x) (lr x ∙ or_right (r x) (n x) e) o'))
 
 pub wave_end : (L : Links) (s : Set) (a : ℕ) (r p u n : Set) → Grown L s a r p → Spread L p u → ((x : ℕ) → n x ≡ ((u cut s) without r) x)
     → ((x : ℕ) → x not_in n) → Island L s a r
