@@ -1,2 +1,3 @@
 pub mod TableTest
 pub mod Card
+pub mod Chained
