@@ -1,9 +1,10 @@
 -- THE REFUSAL CARD, docs/CARD.md: the number of each refusal, and when it is given.
 --   number r              the card's number of the refusal r
+--   number_of r           the number of the reply r: that of its refusal, or 0
 --   Test                  a line of the card put to an input: its number, and what it is given exactly for
 --   FirstFailing ts r     r is the number of the first test of the list that fails; 0 where none does
 --   LEVEL k, STATIONS n, ..   the lines of the card
-use Rattle.std.specs.Prelude.{Bool, true, false, List, [], ◌∷◌, ◌⊎◌, ◌≡◌, ℕ, zero, suc, ◌*◌, ◌<◌, ◌≤◌, length}
+use Rattle.std.specs.Prelude.{Bool, true, false, Result, Ok, Err, List, [], ◌∷◌, ◌⊎◌, ◌≡◌, ℕ, zero, suc, ◌*◌, ◌<◌, ◌≤◌, length}
 use Rattle.stations.specs.Sets as sets
 use Rattle.stations.specs.Sets.{◌is_in◌}
 use Rattle.stations.specs.Words.{has}
@@ -12,8 +13,6 @@ use Rattle.mesh.specs.Dividing.{Dividing, needed}
 use Rattle.mesh.specs.Table.{linked, Fault}
 use Rattle.card.specs.declared.Refusal.{Refusal}
 use Rattle.card.specs.declared.Refusal.TheVariants.{Level, Stations, TableLength, Table, ListRoom, Set, Station, Mark, Version, Count, Length, Serial, Link, Room, Rows}
-use Rattle.card.specs.declared.Tested.{Tested}
-use Rattle.card.specs.declared.Tested.TheVariants.{Passed, Failed}
 
 abbrev pub number : Refusal → ℕ
 number Level = 1
@@ -32,10 +31,10 @@ number Link = 13
 number Room = 14
 number Rows = 15
 
--- the number of what a test comes to; 0 where it passed
-abbrev pub verdict : Tested → ℕ
-verdict Passed = 0
-verdict (Failed r) = number r
+-- the number of a reply's refusal; 0 where the question is answered, or the test passed
+abbrev pub number_of : {A : Type 0} → Result A Refusal → ℕ
+number_of (Ok a) = 0
+number_of (Err r) = number r
 
 pub record Test : Type 1 where
   pub refusal : ℕ

@@ -5,88 +5,57 @@ ghost use Rattle.std.specs.Prelude.{[], ◌∷◌, true, ◌≡◌, ℕ, ◌+◌
 ghost use Rattle.stations.specs.Words.{bit, members};
 ghost use Rattle.mesh.specs.Mesh.{R};
 ghost use Rattle.mesh.specs.Table.{Fits, Fault};
-ghost use Rattle.card.specs.Card.{number, verdict, earlier, FirstFailing, Says, LEVEL, LIST_ROOM, SET, STATION, PAIR, table_order};
+ghost use Rattle.card.specs.Card.{number, number_of, FirstFailing, Says, LEVEL, LIST_ROOM, SET, STATION, PAIR, table_order};
 ghost use Rattle.card.specs.Tests.{Mirrored, MirroredRow, RowFault};
 
 use stations::StationSet;
 
-// The card (docs/CARD.md), in its order.
+// The card (docs/CARD.md): each refusal with its number.
 #[derive(Clone, Copy)]
 pub enum Refusal {
-    Level,
-    Stations,
-    TableLength,
-    Table,
-    ListRoom,
-    Set,
-    Station,
-    Mark,
-    Version,
-    Count,
-    Length,
-    Serial,
-    Link,
-    Room,
-    Rows,
+    Level = 1,
+    Stations = 2,
+    TableLength = 3,
+    Table = 4,
+    ListRoom = 5,
+    Set = 6,
+    Station = 7,
+    Mark = 8,
+    Version = 9,
+    Count = 10,
+    Length = 11,
+    Serial = 12,
+    Link = 13,
+    Room = 14,
+    Rows = 15,
 }
 
-impl Refusal {
-    // Its number on the card.
-    pub fn number(self) -> u64
-        ensures { result ≡ number self }
-    {
-        let refusal = self;
-        match refusal {
-            Refusal::Level => 1,
-            Refusal::Stations => 2,
-            Refusal::TableLength => 3,
-            Refusal::Table => 4,
-            Refusal::ListRoom => 5,
-            Refusal::Set => 6,
-            Refusal::Station => 7,
-            Refusal::Mark => 8,
-            Refusal::Version => 9,
-            Refusal::Count => 10,
-            Refusal::Length => 11,
-            Refusal::Serial => 12,
-            Refusal::Link => 13,
-            Refusal::Room => 14,
-            Refusal::Rows => 15,
-        }
+impl From<Refusal> for u64 {
+    ghost from_gives = { λ r n. n ≡ number r };
+
+    fn from(r: Refusal) -> u64 {
+        r as u64
     }
 }
 
-// What a test comes to.
-#[derive(Clone, Copy)]
-pub enum Tested {
-    Passed,
-    Failed(Refusal),
-}
-
-impl Tested {
-    // The first of two tests that failed.
-    pub fn then(self, next: Tested) -> Self
-        ensures { verdict result ≡ earlier (verdict self) (verdict next) }
-    {
-        let first = self;
-        match first {
-            Tested::Passed => next,
-            Tested::Failed(r) => Tested::Failed(r),
-        }
+// The number of a reply's refusal, 0 where the question is answered.
+pub fn number_of<T>(reply: &Result<T, Refusal>) -> u64
+    ensures { result ≡ number_of reply.now }
+{
+    match reply {
+        Ok(_) => 0,
+        Err(r) => u64::from(*r),
     }
 }
 
 // 1: a level is 1 to 16.
-pub fn test_level(k: usize) -> Tested
-    ensures { FirstFailing (LEVEL k ∷ []) (verdict result) }
+pub fn test_level(k: usize) -> Result<(), Refusal>
+    ensures { FirstFailing (LEVEL k ∷ []) (number_of result) }
 {
-    if k == 0 {
-        return Tested::Failed(Refusal::Level);
+    if k == 0 || 16 < k {
+        return Err(Refusal::Level);
     }
-    if 16 < k {
-        return Tested::Failed(Refusal::Level);
-    }
-    Tested::Passed
+    Ok(())
 }
 
 // R: the rows that a list at level k needs room for.
@@ -101,56 +70,52 @@ pub fn rows(n: usize, k: usize) -> usize
 }
 
 // 5: a list of `words` words has room for R rows.
-pub fn test_list_room(n: usize, k: usize, words: usize) -> Tested
-    ensures { FirstFailing (LIST_ROOM n k words ∷ []) (verdict result) }
+pub fn test_list_room(n: usize, k: usize, words: usize) -> Result<(), Refusal>
+    ensures { FirstFailing (LIST_ROOM n k words ∷ []) (number_of result) }
 {
     if words / 4 < rows(n, k) {
-        return Tested::Failed(Refusal::ListRoom);
+        return Err(Refusal::ListRoom);
     }
-    Tested::Passed
+    Ok(())
 }
 
 // 7: a station is a number below n.
-pub fn test_station(n: usize, a: usize) -> Tested
-    ensures { FirstFailing (STATION n a ∷ []) (verdict result) }
+pub fn test_station(n: usize, a: usize) -> Result<(), Refusal>
+    ensures { FirstFailing (STATION n a ∷ []) (number_of result) }
 {
     if n <= a {
-        return Tested::Failed(Refusal::Station);
+        return Err(Refusal::Station);
     }
-    Tested::Passed
+    Ok(())
 }
 
 // 7: a pair is two different numbers below n.
-pub fn test_pair(n: usize, a: usize, b: usize) -> Tested
-    ensures { FirstFailing (PAIR n a b ∷ []) (verdict result) }
+pub fn test_pair(n: usize, a: usize, b: usize) -> Result<(), Refusal>
+    ensures { FirstFailing (PAIR n a b ∷ []) (number_of result) }
 {
-    if n <= a {
-        return Tested::Failed(Refusal::Station);
-    }
-    if n <= b {
-        return Tested::Failed(Refusal::Station);
-    }
+    test_station(n, a)?;
+    test_station(n, b)?;
     if a == b {
-        return Tested::Failed(Refusal::Station);
+        return Err(Refusal::Station);
     }
-    Tested::Passed
+    Ok(())
 }
 
 // 6: a set is four words with no bit from n up. With n at 256 or more there is no such bit.
-pub fn test_set(n: usize, set: &[u64]) -> Tested
-    ensures { FirstFailing (SET n set.now ∷ []) (verdict result) }
+pub fn test_set(n: usize, set: &[u64]) -> Result<(), Refusal>
+    ensures { FirstFailing (SET n set.now ∷ []) (number_of result) }
 {
     if set.len() != 4 {
-        return Tested::Failed(Refusal::Set);
+        return Err(Refusal::Set);
     }
     if 256 <= n {
-        return Tested::Passed;
+        return Ok(());
     }
     let s = StationSet::of_row(set, 0);
     if !s.minus(StationSet::first_n(n)).is_empty() {
-        return Tested::Failed(Refusal::Set);
+        return Err(Refusal::Set);
     }
-    Tested::Passed
+    Ok(())
 }
 
 // Does each station base + j, for a set bit j of w, have station i in its row?
@@ -206,26 +171,21 @@ fn table_fails(table: &[u64], n: usize) -> bool
     requires { (n ≤ 256) × (length table.now ≡ n * 4) }
     ensures { Says (Fault n table.now) result }
 {
-    for i in 0..n {
-        if row_fails(table, n, i) {
-            return true;
-        }
-    }
-    false
+    (0..n).any(|i| row_fails(table, n, i))
 }
 
 // 2, 3, 4: at most 256 stations, 4n words, and no fault. No product with n is made before n is tested, and no word is read before the length is.
-pub fn test_table(n: usize, table: &[u64]) -> Tested
-    ensures { FirstFailing (table_order n table.now) (verdict result) }
+pub fn test_table(n: usize, table: &[u64]) -> Result<(), Refusal>
+    ensures { FirstFailing (table_order n table.now) (number_of result) }
 {
     if 256 < n {
-        return Tested::Failed(Refusal::Stations);
+        return Err(Refusal::Stations);
     }
     if table.len() != n * 4 {
-        return Tested::Failed(Refusal::TableLength);
+        return Err(Refusal::TableLength);
     }
     if table_fails(table, n) {
-        return Tested::Failed(Refusal::Table);
+        return Err(Refusal::Table);
     }
-    Tested::Passed
+    Ok(())
 }

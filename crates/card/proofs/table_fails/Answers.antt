@@ -1,8 +1,14 @@
-use mathlib.Core.Bool.{true}
-use mathlib.Core.Path.{refl}
-use Rattle.stations.proofs.Bools.{never}
-use Rattle.card.proofs.TableTest.{fault_of}
+use native.Mathlib.Omega.{arith}
+use borrow.Author.Rules.{rules}
+use borrow.Author.Tests.{tests}
+use Rattle.std.proofs.lemmas.Iterator.{cases_from_any, YieldsList-from_range}
+use Rattle.card.specs.Tests.{RowFault}
+use Rattle.card.proofs.TableTest.{rows_told}
 use Rattle.card.proofs.table_fails.Goals as goal
 
-pub returns-then-row_fails : goal.returns-then-row_fails
-returns-then-row_fails c = record { yes_so = λ _. fault_of _ _ _ c.loop-i-test.true (c.row_fails.ensures.yes_so c.if-row_fails.true); not_so = λ e. never true refl e }
+pub returns : goal.returns
+returns c =
+    let n = c.args.n in
+    let t = c.args.table.now in
+    rows_told n t c.any.result
+    (cases_from_any _ _ _ (RowFault n t) (λ a. ¬ RowFault n t a) c.any.ensures.ran (YieldsList-from_range 0 n n (cc) (omega arith)) (λ x q k. search (rules, tests)) (λ x q k. search (rules, tests)))
