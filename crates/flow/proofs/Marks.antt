@@ -1,8 +1,7 @@
--- What the stores of `mark` and `idle` come to: the stations of a set are taken one at a time (Marking), and each station holds itself (Idle).
+-- What the stores of `mark` come to: the stations of a set are taken one at a time (Marking).
 use mathlib.Core.List.{List}
 use mathlib.Core.Path.{◌≡◌, refl, sym, ap, ◌∙◌}
-use Prim.Native.Nat.{ℕ, ◌+◌, ◌<◌}
-use native.Mathlib.Nat.{not-suc-le-zero}
+use Prim.Native.Nat.{ℕ}
 use native.Mathlib.Decide.{ℕ_discrete}
 use native.Mathlib.Omega.{arith}
 use lib.ListN.{length, set, length-set}
@@ -11,7 +10,7 @@ use Rattle.stations.specs.Sets.{Set, ◌is_in◌, ◌not_in◌, ◌part_of◌, o
 use Rattle.stations.specs.Answers.{Taken}
 use Rattle.stations.proofs.Bools.{never, not_so}
 use Rattle.stations.proofs.Members.{in_less, of_without}
-use Rattle.flow.specs.Search.{at, Marked, Idle}
+use Rattle.flow.specs.Search.{at, Marked}
 
 -- ---- the walk over the stations of a set s: those of `left` are still to come
 pub record Marking (from : List ℕ) (s left : Set) (g : ℕ) (from' : List ℕ) : Type 0 where
@@ -37,17 +36,4 @@ marking_more {s = s} {left = left} {g = g} {from' = from'} m j left' t = record 
     | no ne ↦ get_or-set_other from' j x g 0 ne ∙ m.new x i (not_so (left x) (λ h. never (left' x) (t.rest x ∙ in_less left j x h ne) o))
   ];
   old = λ x o. get_or-set_other from' j x g 0 (λ q. never (s j) (m.inside j t.least.mine) (ap s (sym q) ∙ o)) ∙ m.old x o;
-}
-
--- ---- each station holds itself
-pub idle_none : (hold : List ℕ) → length hold ≡ 256 → Idle hold 0
-idle_none hold l = record { whole = l; same = λ w k. absurd (not-suc-le-zero k) }
-
-pub idle_more : (hold : List ℕ) (i : ℕ) → i < 256 → Idle hold i → Idle (set hold i i) (i + 1)
-idle_more hold i l I = record {
-  whole = length-set hold i i ∙ I.whole;
-  same = λ w k. elim (ℕ_discrete w i) [
-    | yes q ↦ rw q (get_or-set_same hold i i 0 (omega (arith, I.whole)))
-    | no ne ↦ get_or-set_other hold i w i 0 ne ∙ I.same w (omega arith)
-  ];
 }
