@@ -1,3 +1,2 @@
 pub mod TableTest
 pub mod Card
-pub mod Chained
