@@ -30,6 +30,10 @@ and_right false b h = absurd (false≢true h)
 pub and_in : (a b : Bool) → a ≡ true → b ≡ true → a && b ≡ true
 and_in a b p q = cc
 
+pub and_whole : (a : Bool) → (a && true) ≡ a
+and_whole true = refl
+and_whole false = refl
+
 pub and_off : (a b : Bool) → a && b ≡ false → a ≡ true → b ≡ false
 and_off true b h p = h
 and_off false b h p = absurd (false≢true p)

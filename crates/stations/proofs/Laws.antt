@@ -1,21 +1,23 @@
 -- The laws of a set of words: where a station stands (has_at), sets told word by word (has_by, zipped), the same members are the same words
 -- (members_same), the size is the sum of the ones, the smallest station is the lowest bit, the order by the smallest difference, rows of tables.
-use mathlib.Core.Bool.{Bool, true, false, xor, true≢false, false≢true}
+use mathlib.Core.Bool.{Bool, true, false, not, ◌&&◌, xor, true≢false, false≢true}
 use mathlib.Core.List.{List, [], ◌∷◌}
 use mathlib.Core.Path.{◌≡◌, refl, sym, ap, ap₂, ◌∙◌, subst}
-use Prim.Native.Nat.{ℕ, zero, suc, ◌+◌, ◌*◌, ◌/◌, ◌%◌, ◌^◌, ◌≤◌, ◌<◌}
+use Prim.Native.Nat.{ℕ, zero, suc, ◌+◌, ◌-◌, ◌*◌, ◌/◌, ◌%◌, ◌^◌, ◌≤◌, ◌<◌}
 use native.Mathlib.Nat.{not-suc-le-zero, le_of_suc-le-suc, add-zero}
-use native.Mathlib.Decide.{dec_lt}
+use native.Mathlib.Decide.{dec_lt, ℕ_discrete}
 use native.Mathlib.Omega.{arith}
+use lib.Bits.{bit_and}
 use lib.Count.{ones, count_trailing_zeros}
 use lib.Dec.{eqb, ltb, lit<}
 use lib.ListN.{length, get_or, set, length-set, get_or-eq_default}
 use lib.Seq.{ext_get_or, get_or-set_same, get_or-set_other}
 use borrow.Author.Tests.{eqb-true, eq-eqb, ne_eqb, ltb-true, lt-ltb, le-ltb}
-use Rattle.stations.specs.Sets.{Set, Before, size}
+use Rattle.stations.specs.Sets.{Set, Before, ◌without◌, only, size}
 use Rattle.stations.specs.Words.{bit, has, row, put_row}
-use Rattle.stations.specs.Answers.{Least, Order}
-use Rattle.stations.proofs.Bit.{bit-none, bit_ext, trailing_at, trailing_below, trailing_lt}
+use Rattle.stations.specs.Answers.{Least, Taken, Sameness, Order}
+use Rattle.stations.proofs.Bit.{bit-none, bit_ext, bit_rest, trailing_at, trailing_below, trailing_lt}
+use Rattle.stations.proofs.Bools.{and_left, and_right, and_in, and_whole}
 use Rattle.stations.proofs.Ones.{size-bit}
 use Rattle.stations.proofs.Counting.{size_ext, size-add}
 use Rattle.stations.proofs.Order.{before_not_after}
@@ -106,6 +108,29 @@ wide_four a b c d p q r s (suc (suc zero)) = r
 wide_four a b c d p q r s (suc (suc (suc zero))) = s
 wide_four a b c d p q r s (suc (suc (suc (suc i)))) = lit< tt
 
+-- the same words, as `==` compares them, are the same members
+pub same_words : (a b c d a' b' c' d' : ℕ) → Wide (a ∷ b ∷ c ∷ d ∷ []) → Wide (a' ∷ b' ∷ c' ∷ d' ∷ [])
+    → (r : Bool) → r ≡ (eqb a a' && (eqb b b' && (eqb c c' && eqb d d'))) → Sameness (has (a ∷ b ∷ c ∷ d ∷ [])) (has (a' ∷ b' ∷ c' ∷ d' ∷ [])) r
+same_words a b c d a' b' c' d' wide wide' r e = record {
+  same = λ f x.
+      let h : (eqb a a' && (eqb b b' && (eqb c c' && eqb d d'))) ≡ true = sym e ∙ f in
+      let h' : _ = and_right (eqb a a') (eqb b b' && (eqb c c' && eqb d d')) h in
+      let h'' : _ = and_right (eqb b b') (eqb c c' && eqb d d') h' in
+      let p : a ≡ a' = eqb-true a a' (and_left (eqb a a') (eqb b b' && (eqb c c' && eqb d d')) h) in
+      let q : b ≡ b' = eqb-true b b' (and_left (eqb b b') (eqb c c' && eqb d d') h') in
+      let u : c ≡ c' = eqb-true c c' (and_left (eqb c c') (eqb d d') h'') in
+      let v : d ≡ d' = eqb-true d d' (and_right (eqb c c') (eqb d d') h'') in
+      rw (p, q, u, v) refl;
+  other = λ f h.
+      let same : (a ∷ b ∷ c ∷ d ∷ []) ≡ (a' ∷ b' ∷ c' ∷ d' ∷ []) = members_same (a ∷ b ∷ c ∷ d ∷ []) (a' ∷ b' ∷ c' ∷ d' ∷ []) refl refl wide wide' h in
+      true≢false (
+      sym (and_in (eqb a a') (eqb b b' && (eqb c c' && eqb d d')) (eq-eqb a a' (ap (λ (l : List ℕ). get_or l 0 0) same))
+      (and_in (eqb b b') (eqb c c' && eqb d d') (eq-eqb b b' (ap (λ (l : List ℕ). get_or l 1 0) same))
+      (and_in (eqb c c') (eqb d d') (eq-eqb c c' (ap (λ (l : List ℕ). get_or l 2 0) same)) (eq-eqb d d' (ap (λ (l : List ℕ). get_or l 3 0) same)))))
+      ∙ sym e ∙ f
+      );
+}
+
 -- ---- the size is the sum of the words' set bits
 pub size_ones : (a b c d : ℕ) → a < 2 ^ 64 → b < 2 ^ 64 → c < 2 ^ 64 → d < 2 ^ 64 → size 256 (has (a ∷ b ∷ c ∷ d ∷ [])) ≡ ones a + (ones b + (ones c + ones d))
 size_ones a b c d p q r s =
@@ -183,6 +208,33 @@ least_at ws q j b l w z e =
       below = λ k h. first_below ws q b w z k (subst (λ (x : ℕ). k < x) e h);
     }
 
+-- ---- the smallest station taken out: the lowest bit of word q is cleared, the other words stay
+module _ (ws ws' : List ℕ) (l : length ws ≡ 4) (l' : length ws' ≡ 4) (q : ℕ) (wide : get_or ws q 0 < 2 ^ 64) (some : get_or ws q 0 ≡ 0 → ⊥)
+    (cleared : get_or ws' q 0 ≡ bit_and (get_or ws q 0) (get_or ws q 0 - 1)) (same : (i : ℕ) → i < 4 → (i ≡ q → ⊥) → get_or ws' i 0 ≡ get_or ws i 0) where
+  abbrev lowest : ℕ
+  lowest = count_trailing_zeros 64 (get_or ws q 0)
+
+  pub popped : (x : ℕ) → has ws' x ≡ (has ws without only (q * 64 + count_trailing_zeros 64 (get_or ws q 0))) x
+  popped = has_by ws' (has ws without only (q * 64 + lowest)) l' (λ j h. ap (λ (b : Bool). b && not (eqb j (q * 64 + lowest))) (has_beyond ws j l h)) word
+    where
+      small : lowest < 64
+      small = trailing_lt 64 (get_or ws q 0) wide some
+
+      word : (i k : ℕ) → i < 4 → k < 64 → bit (get_or ws' i 0) k ≡ (has ws without only (q * 64 + lowest)) (i * 64 + k)
+      word i k h m = go (ℕ_discrete i q)
+        where
+          mine : has ws (i * 64 + k) ≡ bit (get_or ws i 0) k
+          mine = has_at ws (i * 64 + k) i k (omega arith) (omega arith)
+
+          go : Dec (i ≡ q) → bit (get_or ws' i 0) k ≡ (has ws without only (q * 64 + lowest)) (i * 64 + k)
+          go (yes e) =
+              ap (λ (y : ℕ). bit (get_or ws' y 0) k) e ∙ ap (λ (y : ℕ). bit y k) cleared ∙ bit_rest 64 (get_or ws q 0) wide some k
+              ∙ ap₂ (λ (b t : Bool). b && not t) (ap (λ (y : ℕ). bit (get_or ws y 0) k) (sym e) ∙ sym mine)
+              (eqb_iff k lowest (i * 64 + k) (q * 64 + lowest) (λ f. omega arith) (λ f. omega arith))
+          go (no n) =
+              ap (λ (y : ℕ). bit y k) (same i h n) ∙ sym mine ∙ sym (and_whole (has ws (i * 64 + k)))
+              ∙ ap (λ (t : Bool). has ws (i * 64 + k) && not t) (sym (ne_eqb (i * 64 + k) (q * 64 + lowest) (λ f. let m' : lowest < 64 = small in n (omega arith))))
+
 -- a set with no word but 0
 pub blank_all : (ws : List ℕ) → length ws ≡ 4 → Blank ws 4 → (j : ℕ) → has ws j ≡ false
 blank_all ws l b = has_by ws (λ j. false) l (λ j h. refl) (λ i k h p. ap (λ (x : ℕ). bit x k) (b i h) ∙ bit-none k)
@@ -206,6 +258,45 @@ module _ (a b c d : ℕ) where
 
   pub least₃ : (j : ℕ) → a ≡ 0 → b ≡ 0 → c ≡ 0 → d < 2 ^ 64 → (d ≡ 0 → ⊥) → j ≡ 192 + count_trailing_zeros 64 d → Least (has (a ∷ b ∷ c ∷ d ∷ [])) j
   least₃ j p q r w z e = least_at ws 3 j (blank_cons (b ∷ c ∷ d ∷ []) 2 p (blank_cons (c ∷ d ∷ []) 1 q (blank_cons (d ∷ []) 0 r (blank_none (d ∷ []))))) (lit< tt) w z (omega arith)
+
+  -- one word changed
+  abbrev others : ℕ → List ℕ → ℕ → Type 0
+  others q ws' i = (i ≡ q → ⊥) → get_or ws' i 0 ≡ get_or ws i 0
+
+  pub taken₀ : (j : ℕ) → a < 2 ^ 64 → (a ≡ 0 → ⊥) → j ≡ count_trailing_zeros 64 a → Taken (has (a ∷ b ∷ c ∷ d ∷ [])) j (has (bit_and a (a - 1) ∷ b ∷ c ∷ d ∷ []))
+  taken₀ j w z e =
+      let ws' : List ℕ = bit_and a (a - 1) ∷ b ∷ c ∷ d ∷ [] in record {
+        least = least₀ j w z e;
+        rest = subst (λ (y : ℕ). (x : ℕ) → has ws' x ≡ (has ws without only y) x) (omega arith)
+            (popped ws ws' refl refl 0 w z refl (four (others 0 ws') (λ n. absurd (n refl)) (λ n. refl) (λ n. refl) (λ n. refl)));
+      }
+
+  pub taken₁ : (j : ℕ) → a ≡ 0 → b < 2 ^ 64 → (b ≡ 0 → ⊥) → j ≡ 64 + count_trailing_zeros 64 b
+      → Taken (has (a ∷ b ∷ c ∷ d ∷ [])) j (has (a ∷ bit_and b (b - 1) ∷ c ∷ d ∷ []))
+  taken₁ j p w z e =
+      let ws' : List ℕ = a ∷ bit_and b (b - 1) ∷ c ∷ d ∷ [] in record {
+        least = least₁ j p w z e;
+        rest = subst (λ (y : ℕ). (x : ℕ) → has ws' x ≡ (has ws without only y) x) (omega arith)
+            (popped ws ws' refl refl 1 w z refl (four (others 1 ws') (λ n. refl) (λ n. absurd (n refl)) (λ n. refl) (λ n. refl)));
+      }
+
+  pub taken₂ : (j : ℕ) → a ≡ 0 → b ≡ 0 → c < 2 ^ 64 → (c ≡ 0 → ⊥) → j ≡ 128 + count_trailing_zeros 64 c
+      → Taken (has (a ∷ b ∷ c ∷ d ∷ [])) j (has (a ∷ b ∷ bit_and c (c - 1) ∷ d ∷ []))
+  taken₂ j p q w z e =
+      let ws' : List ℕ = a ∷ b ∷ bit_and c (c - 1) ∷ d ∷ [] in record {
+        least = least₂ j p q w z e;
+        rest = subst (λ (y : ℕ). (x : ℕ) → has ws' x ≡ (has ws without only y) x) (omega arith)
+            (popped ws ws' refl refl 2 w z refl (four (others 2 ws') (λ n. refl) (λ n. refl) (λ n. absurd (n refl)) (λ n. refl)));
+      }
+
+  pub taken₃ : (j : ℕ) → a ≡ 0 → b ≡ 0 → c ≡ 0 → d < 2 ^ 64 → (d ≡ 0 → ⊥) → j ≡ 192 + count_trailing_zeros 64 d
+      → Taken (has (a ∷ b ∷ c ∷ d ∷ [])) j (has (a ∷ b ∷ c ∷ bit_and d (d - 1) ∷ []))
+  taken₃ j p q r w z e =
+      let ws' : List ℕ = a ∷ b ∷ c ∷ bit_and d (d - 1) ∷ [] in record {
+        least = least₃ j p q r w z e;
+        rest = subst (λ (y : ℕ). (x : ℕ) → has ws' x ≡ (has ws without only y) x) (omega arith)
+            (popped ws ws' refl refl 3 w z refl (four (others 3 ws') (λ n. refl) (λ n. refl) (λ n. refl) (λ n. absurd (n refl))));
+      }
 
   -- told word by word
   pub four_by : (f : ℕ → Bool) → ((j : ℕ) → 256 ≤ j → f j ≡ false)

@@ -6,5 +6,6 @@ pub mod Bit
 pub mod Ones
 pub mod Laws
 pub mod Walk
+pub mod Popping
 pub mod Replies
 pub mod OnlyOne

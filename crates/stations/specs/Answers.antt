@@ -1,10 +1,8 @@
 -- What the questions about sets answer.
-use Rattle.std.specs.Prelude.{Bool, true, false, List, [], ◌≡◌, ℕ, ◌<◌, length}
+use Rattle.std.specs.Prelude.{Bool, true, false, List, [], ◌≡◌, ℕ, ◌<◌, length, Option, Some, None}
 use Rattle.std.specs.Borrow.{Bor}
-use Rattle.stations.specs.Sets.{Set, ◌is_in◌, ◌not_in◌, Before}
+use Rattle.stations.specs.Sets.{Set, ◌is_in◌, ◌not_in◌, ◌without◌, only, Before}
 use Rattle.stations.specs.Words.{has}
-use Rattle.stations.specs.declared.Found.{Found}
-use Rattle.stations.specs.declared.Found.TheVariants.{At, Nothing}
 
 -- j is the smallest station of the set
 pub record Least (s : Set) (j : ℕ) : Type 0 where
@@ -13,9 +11,19 @@ pub record Least (s : Set) (j : ℕ) : Type 0 where
   pub below : (x : ℕ) → x < j → x not_in s
 
 -- the smallest station, or none
-abbrev pub FirstOf : Set → Found → Type 0
-FirstOf s (At j) = Least s j
-FirstOf s Nothing = (x : ℕ) → x not_in s
+abbrev pub FirstOf : Set → Option ℕ → Type 0
+FirstOf s (Some j) = Least s j
+FirstOf s None = (x : ℕ) → x not_in s
+
+-- j is the smallest station of s, and t has the others
+pub record Taken (s : Set) (j : ℕ) (t : Set) : Type 0 where
+  pub least : Least s j
+  pub rest : (x : ℕ) → t x ≡ (s without only j) x
+
+-- the smallest station taken out of s, which leaves t; or none, of no station
+abbrev pub Popped : Set → Option ℕ → Set → Type 0
+Popped s (Some j) t = Taken s j t
+Popped s None t = ((x : ℕ) → x not_in s) × ((x : ℕ) → x not_in t)
 
 -- the set is empty, as r says
 pub record Emptiness (s : Set) (r : Bool) : Type 0 where

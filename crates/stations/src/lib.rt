@@ -3,23 +3,18 @@
 
 ghost use Rattle.std.specs.Prelude.{◌≡◌, ℕ, ◌+◌, ◌*◌, ◌<◌, ◌≤◌, eqb, ltb, length, get_or};
 ghost use Rattle.std.specs.Bool.{xor};
+ghost use Rattle.std.specs.Iterator.{at_most};
 ghost use Rattle.std.specs.Int.Count.{ones, count_trailing_zeros};
 ghost use Rattle.stations.specs.Sets.{none, only, stations, size, ◌joined◌, ◌cut◌, ◌without◌};
 ghost use Rattle.stations.specs.Words.{bit, words, members, row, put_row};
-ghost use Rattle.stations.specs.Answers.{FirstOf, Emptiness, Sameness, Order, FirstRow};
+ghost use Rattle.stations.specs.Answers.{FirstOf, Popped, Emptiness, Sameness, Order, FirstRow};
 
-#[derive(Clone, Copy)]
+#[derive(Clone, Copy, PartialEq, Eq)]
 pub struct StationSet {
     pub a: u64,
     pub b: u64,
     pub c: u64,
     pub d: u64,
-}
-
-#[derive(Clone, Copy)]
-pub enum Found {
-    At(usize),
-    Nothing,
 }
 
 // The part of {j} that stands in word i.
@@ -203,48 +198,70 @@ impl StationSet {
     }
 
     // The smallest station.
-    pub fn first(self) -> Found
+    pub fn first(self) -> Option<usize>
         ensures { FirstOf (members self) result }
     {
         if self.a != 0 {
-            return Found::At(low_bit(self.a));
+            return Some(low_bit(self.a));
         }
         if self.b != 0 {
-            return Found::At(64 + low_bit(self.b));
+            return Some(64 + low_bit(self.b));
         }
         if self.c != 0 {
-            return Found::At(128 + low_bit(self.c));
+            return Some(128 + low_bit(self.c));
         }
         if self.d != 0 {
-            return Found::At(192 + low_bit(self.d));
+            return Some(192 + low_bit(self.d));
         }
-        Found::Nothing
+        None
+    }
+
+    // Takes the smallest station out.
+    pub fn pop_first(&mut self) -> Option<usize>
+        ensures { Popped (members self.old) result (members self.new) }
+    {
+        if self.a != 0 {
+            let j = low_bit(self.a);
+            self.a &= self.a - 1;
+            return Some(j);
+        }
+        if self.b != 0 {
+            let j = 64 + low_bit(self.b);
+            self.b &= self.b - 1;
+            return Some(j);
+        }
+        if self.c != 0 {
+            let j = 128 + low_bit(self.c);
+            self.c &= self.c - 1;
+            return Some(j);
+        }
+        if self.d != 0 {
+            let j = 192 + low_bit(self.d);
+            self.d &= self.d - 1;
+            return Some(j);
+        }
+        None
     }
 
     pub fn is_empty(self) -> bool
         ensures { Emptiness (members self) result }
     {
-        let f = self.first();
-        match f {
-            Found::At(_) => false,
-            Found::Nothing => true,
-        }
+        self.first().is_none()
     }
 
     pub fn same(self, o: StationSet) -> bool
         ensures { Sameness (members self) (members o) result }
     {
-        self.differ(o).is_empty()
+        self == o
     }
 
     // Does this set come before the other?
     pub fn before(self, o: StationSet) -> bool
         ensures { Order (members self) (members o) result }
     {
-        let f = self.differ(o).first();
-        match f {
-            Found::At(j) => self.has(j),
-            Found::Nothing => false,
+        match self.differ(o).first() {
+            Some(j) => self.has(j),
+            None => false,
         }
     }
 
@@ -256,6 +273,36 @@ impl StationSet {
         let c = ones_of(self.c);
         let d = ones_of(self.d);
         a + (b + (c + d))
+    }
+}
+
+// The stations of a set, rising.
+#[derive(Clone, Copy)]
+pub struct Stations {
+    pub left: StationSet,
+}
+
+impl Iterator for Stations {
+    type Item = usize;
+
+    ghost next_gives = { λ s r t. Popped (members s.left) r (members t.left) };
+
+    ghost remaining = { λ s. at_most (size 256 (members s.left)) };
+
+    fn next(&mut self) -> Option<usize> {
+        self.left.pop_first()
+    }
+}
+
+impl IntoIterator for StationSet {
+    type Item = usize;
+
+    type IntoIter = Stations;
+
+    ghost into_iter_gives = { λ s it. it.left ≡ s };
+
+    fn into_iter(self) -> Stations {
+        Stations { left: self }
     }
 }
 
@@ -271,9 +318,8 @@ pub fn first_row<'a>(x: &'a [u64], y: &'a [u64]) -> &'a [u64]
     }
     let u = StationSet::of_row(x, 0);
     let v = StationSet::of_row(y, 0);
-    let f = u.differ(v).first();
-    match f {
-        Found::At(j) => { if u.has(j) { x } else { y } }
-        Found::Nothing => x,
+    match u.differ(v).first() {
+        Some(j) => { if u.has(j) { x } else { y } }
+        None => x,
     }
 }
