@@ -10,7 +10,7 @@ use lib.ListN.{length, get_or}
 use Rattle.stations.specs.Sets.{Set, ◌is_in◌, ◌not_in◌, ◌without◌, only, size}
 use Rattle.stations.specs.Answers.{Least}
 use Rattle.stations.proofs.Bools.{never}
-use Rattle.stations.proofs.Counting.{size-add, size_ext, size_minus_one}
+use Rattle.stations.proofs.Counting.{size-add}
 use Rattle.stations.proofs.Members.{less_same, lost_without, off_without, is_only}
 use Rattle.lines.specs.Lines.{labelled, serial_if, serials_of}
 use Rattle.lines.specs.Pages.{Room, Put}
@@ -104,7 +104,3 @@ module _ {serials : List ℕ} {s rest : Set} {p q : Page} (S : Spelled serials s
         out : (x : ℕ) → x < suc j → Dec (x < j) → x not_in rest without only j
         out x g (yes i) = off_without rest (only j) x (l.below x i)
         out x g (no i) = let q : j ≡ x = omega arith in subst (λ (y : ℕ). y not_in rest without only j) q (lost_without rest (only j) j (is_only j))
-
--- the rest less one of its stations
-pub fewer : (s s' : Set) (j : ℕ) → Least s j → ((x : ℕ) → s' x ≡ (s without only j) x) → size 256 s' < size 256 s
-fewer s s' j l e = omega (arith, size_minus_one 256 s j l.small l.mine, size_ext 256 s' (s without only j) (λ x i. e x))

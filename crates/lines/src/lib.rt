@@ -8,7 +8,7 @@ ghost use Rattle.stations.specs.Words.{members};
 ghost use Rattle.lines.specs.Lines.{decimal, labelled, serials_of, first_line, group_line, last_line, refused_line};
 ghost use Rattle.lines.specs.Pages.{Room, Put};
 
-use stations::{Found, StationSet};
+use stations::StationSet;
 
 // A page that is written: the bytes before `at` stand.
 #[derive(Drop)]
@@ -78,21 +78,11 @@ impl<'a> Page<'a> {
         ensures put { Put (serials_of (length serials.now) serials.now (members row)) self.old self.new }
         ensures end { self.new.at ≤ self.old.at + size 256 (members row) * 11 }
     {
-        let mut rest = row;
-        loop {
-            let f = rest.first();
-            match f {
-                Found::At(j) => {
-                    if serials.len() <= j {
-                        return;
-                    }
-                    self.serial(serials[j]);
-                    rest = rest.without(j);
-                }
-                Found::Nothing => {
-                    return;
-                }
+        for j in row {
+            if serials.len() <= j {
+                return;
             }
+            self.serial(serials[j]);
         }
     }
 
