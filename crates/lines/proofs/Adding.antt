@@ -10,8 +10,8 @@ use borrow.Rule.Slice.PartMut.{put_mid}
 use borrow.Author.Rules.{rules}
 use Rattle.std.proofs.lemmas.Slice.{take-put_mid, drop-put_mid, overwrites}
 use Rattle.lines.specs.Lines.{Added}
-use Rattle.lines.specs.Pages.{Put}
-use Rattle.lines.specs.declared.Page.{Page}
+use Rattle.lines.specs.Sheets.{Put}
+use Rattle.lines.specs.declared.Sheet.{Sheet}
 
 pub added_none : (at : ℕ) (bs : List ℕ) → Added at at [] bs bs
 added_none at bs = record { next = omega arith; front = sym (append-nil (take at bs)); beyond = refl; long = refl }
@@ -37,8 +37,8 @@ copied at k new new' bs e f room = rw e record {
   long = search (rules, overwrites);
 }
 
-pub put_none : (p : Page) → Put [] p p
+pub put_none : (p : Sheet) → Put [] p p
 put_none p = record { same = refl; added = added_none p.at p.bytes.now }
 
-pub put_then : {a b : List ℕ} {p q r : Page} → Put a p q → Put b q r → Put (a ++ b) p r
+pub put_then : {a b : List ℕ} {p q r : Sheet} → Put a p q → Put b q r → Put (a ++ b) p r
 put_then x y = record { same = y.same ∙ x.same; added = added_then _ _ _ _ _ _ _ _ x.added y.added }

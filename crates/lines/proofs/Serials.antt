@@ -13,8 +13,8 @@ use Rattle.stations.proofs.Bools.{never}
 use Rattle.stations.proofs.Counting.{size-add}
 use Rattle.stations.proofs.Members.{less_same, lost_without, off_without, is_only}
 use Rattle.lines.specs.Lines.{labelled, serial_if, serials_of}
-use Rattle.lines.specs.Pages.{Room, Put}
-use Rattle.lines.specs.declared.Page.{Page}
+use Rattle.lines.specs.Sheets.{Room, Put}
+use Rattle.lines.specs.declared.Sheet.{Sheet}
 use Rattle.lines.proofs.Adding.{put_none, put_then}
 
 -- stations that the set has not add no serial
@@ -40,7 +40,7 @@ unfolding size
 size_next j s h = rw h (omega arith)
 
 -- the serials of the stations below `done` stand on the page, and `rest` has the set's other stations
-pub record Spelled (serials : List ℕ) (s : Set) (p q : Page) (rest : Set) : Type 0 where
+pub record Spelled (serials : List ℕ) (s : Set) (p q : Sheet) (rest : Set) : Type 0 where
   pub done : ℕ
   pub within : done ≤ length serials
   pub put : Put (serials_of done serials s) p q
@@ -48,7 +48,7 @@ pub record Spelled (serials : List ℕ) (s : Set) (p q : Page) (rest : Set) : Ty
   pub gone : (x : ℕ) → x < done → x not_in rest
   pub left : (x : ℕ) → done ≤ x → rest x ≡ s x
 
-pub spelled_none : (serials : List ℕ) (s : Set) (p : Page) → Spelled serials s p p s
+pub spelled_none : (serials : List ℕ) (s : Set) (p : Sheet) → Spelled serials s p p s
 unfolding serials_of size
 spelled_none serials s p = record {
   done = 0;
@@ -59,7 +59,7 @@ spelled_none serials s p = record {
   left = λ x l. refl;
 }
 
-module _ {serials : List ℕ} {s rest : Set} {p q : Page} (S : Spelled serials s p q rest) (few : length serials ≤ 256) where
+module _ {serials : List ℕ} {s rest : Set} {p q : Sheet} (S : Spelled serials s p q rest) (few : length serials ≤ 256) where
   -- none of the rest has a serial
   pub all_put : ((x : ℕ) → x < length serials → x not_in rest) → Put (serials_of (length serials) serials s) p q
   all_put h = rw (serials_past serials s S.done (length serials) S.within (λ x l g. sym (S.left x l) ∙ h x g)) S.put
@@ -85,7 +85,7 @@ module _ {serials : List ℕ} {s rest : Set} {p q : Page} (S : Spelled serials s
     pub spelled_room : Room (size 256 s * 11 + 10) p → Room 21 q
     spelled_room h = omega (arith, S.end, S.put.added.long, more, size_up (suc j) 256 s (omega arith))
 
-    pub spelled_more : {q' : Page} {rest' : Set} → Put (labelled " " (get_or serials j 0)) q q' → q'.at ≤ q.at + 11
+    pub spelled_more : {q' : Sheet} {rest' : Set} → Put (labelled " " (get_or serials j 0)) q q' → q'.at ≤ q.at + 11
         → ((x : ℕ) → rest' x ≡ (rest without only j) x) → Spelled serials s p q' rest'
     unfolding serials_of
     spelled_more {q'} {rest'} a h e = record {

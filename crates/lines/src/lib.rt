@@ -1,4 +1,4 @@
-// The lines of the night list. A page is a lent buffer with a place in it, and each method puts a line behind what stands there. The room that each asks
+// The lines of the night list. A sheet is a lent buffer with a place in it, and each method puts a line behind what stands there. The room that each asks
 // for is a little more than its line's: a number is given room for twenty digits.
 #![tactic(auto)]
 
@@ -6,24 +6,24 @@ ghost use Rattle.std.specs.Prelude.{◌≡◌, ◌+◌, ◌*◌, ◌<◌, ◌≤
 ghost use Rattle.stations.specs.Sets.{size};
 ghost use Rattle.stations.specs.Words.{members};
 ghost use Rattle.lines.specs.Lines.{decimal, labelled, serials_of, first_line, group_line, last_line, refused_line};
-ghost use Rattle.lines.specs.Pages.{Room, Put};
+ghost use Rattle.lines.specs.Sheets.{Room, Put};
 
 use stations::StationSet;
 
-// A page that is written: the bytes before `at` stand.
+// A page while it is written: the bytes before `at` stand.
 #[derive(Drop)]
-pub struct Page<'a> {
+pub struct Sheet<'a> {
     bytes: &'a mut [u8],
     at: usize,
 }
 
-impl<'a> Page<'a> {
+impl<'a> Sheet<'a> {
     // Nothing stands yet.
-    pub fn new(bytes: &'a mut [u8]) -> Page<'a>
+    pub fn new(bytes: &'a mut [u8]) -> Sheet<'a>
         ensures same { result.bytes.ghost_name ≡ bytes.entry.ghost_name }
         ensures nothing { (result.at ≡ 0) × (result.bytes.now ≡ bytes.old) }
     {
-        Page { bytes, at: 0 }
+        Sheet { bytes, at: 0 }
     }
 
     // How many bytes stand.

@@ -1,6 +1,6 @@
 use native.Mathlib.Omega.{arith}
 use Rattle.lines.proofs.Serials.{spelled_none, all_put, all_end, spelled_room, spelled_more}
-use Rattle.lines.proofs.Page.serials.Goals as goal
+use Rattle.lines.proofs.Sheet.serials.Goals as goal
 
 pub loop-j-init : goal.loop-j-init
 loop-j-init c = rw c.into_iter-j-iterator.ensures.into_iter_gives (spelled_none _ _ _)

@@ -1,7 +1,7 @@
 use mathlib.Core.Path.{refl}
 use native.Mathlib.Omega.{arith}
 use Rattle.lines.proofs.Adding.{copied}
-use Rattle.lines.proofs.Page.text.Goals as goal
+use Rattle.lines.proofs.Sheet.text.Goals as goal
 
 pub returns : goal.returns
 returns c = record {

@@ -1,7 +1,7 @@
 use native.Mathlib.Omega.{arith}
 use Rattle.lines.proofs.Adding.{put_then}
 use Rattle.lines.proofs.Decimal.{decimal_length}
-use Rattle.lines.proofs.Page.group.Goals as goal
+use Rattle.lines.proofs.Sheet.group.Goals as goal
 
 pub labelled-requires : goal.labelled-requires
 labelled-requires c = omega (arith, decimal_length 19 c.args.k 1 c.requires.0)

@@ -1,9 +1,9 @@
 use mathlib.Core.List.{List}
 use mathlib.Core.Path.{◌∙◌, subst}
 use Prim.Native.Nat.{ℕ}
-use Rattle.lines.specs.Pages.{Put}
+use Rattle.lines.specs.Sheets.{Put}
 use Rattle.lines.proofs.Decimal.{decimal_is, few_digits}
-use Rattle.lines.proofs.Page.number.Goals as goal
+use Rattle.lines.proofs.Sheet.number.Goals as goal
 
 pub returns : goal.returns
 returns c =
