@@ -17,31 +17,6 @@ pub record Climb (f : ℕ → ℕ) (i last : ℕ) : Type 0 where
   pub next : (k : ℕ) → suc k ≡ i → last ≡ f k
   pub alone : i ≡ 0 → last ≡ 0
 
-pub climb_none : (f : ℕ → ℕ) → Climb f 0 0
-climb_none f = record {
-  some = λ k l. absurd (omega arith);
-  rising = λ k l. absurd (omega arith);
-  next = λ k e. absurd (omega arith);
-  alone = λ e. refl;
-}
-
-module _ {f : ℕ → ℕ} {i last : ℕ} (C : Climb f i last) where
-  pub climb_more : (x : ℕ) → x ≡ f i → last < x → Climb f (i + 1) x
-  climb_more x e l = record {
-    some = λ k h. some_at k (ℕ_discrete k i) (omega arith);
-    rising = λ k h. rise k (ℕ_discrete (suc k) i) (omega arith);
-    next = λ k h. let q : k ≡ i = omega arith in omega (arith, ap f q);
-    alone = λ h. absurd (omega arith);
-  }
-    where
-      some_at : (k : ℕ) → Dec (k ≡ i) → k < suc i → 0 < f k
-      some_at k (yes q) h = rw q (omega arith)
-      some_at k (no q) h = C.some k (omega arith)
-
-      rise : (k : ℕ) → Dec (suc k ≡ i) → suc k < suc i → f k < f (suc k)
-      rise k (yes q) h = omega (arith, C.next k q, ap f q)
-      rise k (no q) h = C.rising k (omega arith)
-
 -- ---- serials
 pub serials_broken : {f : ℕ → ℕ} {i last : ℕ} (n : ℕ) → Climb f i last → i < n → f i ≤ last → SerialFault n f
 serials_broken {f} {i} {last} n C l h = go i refl
@@ -49,10 +24,6 @@ serials_broken {f} {i} {last} n C l h = go i refl
     go : (k : ℕ) → i ≡ k → SerialFault n f
     go zero e = a_zero i l (omega (arith, C.alone e))
     go (suc k) e = not_rising k (omega arith) (omega (arith, C.next k (sym e), ap f e))
-
-pub serials_passed : {f : ℕ → ℕ} {n k last : ℕ} → Climb f k last → n ≤ k → SerialFault n f → ⊥
-serials_passed C h (a_zero i l e) = omega (arith, C.some i (omega arith))
-serials_passed C h (not_rising i l e) = omega (arith, C.rising i (omega arith))
 
 positive : (x : ℕ) → (x ≡ 0 → ⊥) → 0 < x
 positive x h = omega arith
@@ -75,25 +46,6 @@ pub record LinkClimb (n : ℕ) (a b : ℕ → ℕ) (j last : ℕ) : Type 0 where
   pub below : (k : ℕ) → k < j → b k < n
   pub climb : Climb (λ k. a k * 256 + b k) j last
 
-pub links_none : (n : ℕ) (a b : ℕ → ℕ) → LinkClimb n a b 0 0
-links_none n a b = record { apart = λ k l. absurd (omega arith); below = λ k l. absurd (omega arith); climb = climb_none (λ k. a k * 256 + b k) }
-
-pub links_more : {n : ℕ} {a b : ℕ → ℕ} {j last : ℕ} → LinkClimb n a b j last → (x y : ℕ) → x ≡ a j → y ≡ b j → x < y → y < n → last < x * 256 + y
-    → LinkClimb n a b (j + 1) (x * 256 + y)
-links_more {n} {a} {b} {j} {last} C x y p q l m h = record {
-  apart = λ k i. apart_at k (ℕ_discrete k j) (omega arith);
-  below = λ k i. below_at k (ℕ_discrete k j) (omega arith);
-  climb = climb_more C.climb (x * 256 + y) (omega arith) h;
-}
-  where
-    apart_at : (k : ℕ) → Dec (k ≡ j) → k < suc j → a k < b k
-    apart_at k (yes e) i = rw e (omega arith)
-    apart_at k (no e) i = C.apart k (omega arith)
-
-    below_at : (k : ℕ) → Dec (k ≡ j) → k < suc j → b k < n
-    below_at k (yes e) i = rw e (omega arith)
-    below_at k (no e) i = C.below k (omega arith)
-
 pub links_broken : {n : ℕ} {a b : ℕ → ℕ} {j last : ℕ} (m : ℕ) → n ≤ 256 → LinkClimb n a b j last → j < m → Wrong n last (a j) (b j) → LinkFault n m a b
 links_broken m s C l (crossed h) = not_apart _ l h
 links_broken m s C l (beyond h i) = not_below _ l i
@@ -106,20 +58,6 @@ links_broken {n} {a} {b} {j} {last} m s C l (early h i u) = go j refl
     go : (k : ℕ) → j ≡ k → LinkFault n m a b
     go zero e = absurd (omega (arith, C.climb.alone e))
     go (suc k) e = not_after k (omega arith) (late k e)
-
-after_so : (x y x' y' : ℕ) → y < 256 → y' < 256 → x * 256 + y < x' * 256 + y' → After x y x' y'
-after_so x y x' y' p q h = go (dec_lt x x')
-  where
-    go : Dec (x < x') → After x y x' y'
-    go (yes l) = inl l
-    go (no l) = inr (omega arith, omega arith)
-
-pub pairs_climbed : {n : ℕ} {a b : ℕ → ℕ} {m k last : ℕ} → n ≤ 256 → LinkClimb n a b k last → m ≤ k → Pairs n m a b
-pairs_climbed {n} {a} {b} s C h = record {
-  apart = λ j l. C.apart j (omega arith);
-  below = λ j l. C.below j (omega arith);
-  rising = λ j l. after_so (a j) (b j) (a (suc j)) (b (suc j)) (omega (arith, C.below j (omega arith))) (omega (arith, C.below (suc j) (omega arith))) (C.climb.rising j (omega arith));
-}
 
 pub pairs_faultless : {n m : ℕ} {a b : ℕ → ℕ} → Pairs n m a b → ¬ LinkFault n m a b
 pairs_faultless P (not_apart j l h) = omega (arith, P.apart j l)
