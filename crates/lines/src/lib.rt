@@ -11,7 +11,6 @@ ghost use Rattle.lines.specs.Sheets.{Room, Put};
 use stations::StationSet;
 
 // A page while it is written: the bytes before `at` stand.
-#[derive(Drop)]
 pub struct Sheet<'a> {
     bytes: &'a mut [u8],
     at: usize,
@@ -87,14 +86,14 @@ impl<'a> Sheet<'a> {
     }
 
     // The first line: the mark, the version, the number of stations, the number of links.
-    pub fn first(&mut self, version: usize, n: usize, m: usize)
+    pub fn first(&mut self, version: usize, stations: usize, links: usize)
         requires { Room 100 self.old }
-        ensures put { Put (first_line version n m) self.old self.new }
+        ensures put { Put (first_line version stations links) self.old self.new }
         ensures end { self.new.at ≤ self.old.at + 100 }
     {
         self.labelled(b"RLM ", version as u64);
-        self.labelled(b" stations ", n as u64);
-        self.labelled(b" links ", m as u64);
+        self.labelled(b" stations ", stations as u64);
+        self.labelled(b" links ", links as u64);
         self.text(b"\n");
     }
 
