@@ -3,19 +3,17 @@ use mathlib.Core.Bool.{cond}
 use mathlib.Core.List.{List, [], ◌∷◌, ◌++◌}
 use mathlib.Core.Logic.{inl, inr}
 use mathlib.Core.Path.{◌≡◌, refl, sym, ap, ◌∙◌}
-use Prim.Native.Nat.{ℕ, zero, suc, ◌+◌, ◌-◌, ◌*◌, ◌/◌, ◌%◌, ◌<◌, ◌≤◌}
+use Prim.Native.Nat.{ℕ, ◌*◌, ◌<◌, ◌≤◌}
 use native.Mathlib.Omega.{arith}
 use native.Mathlib.Decide.{ℕ_discrete}
 use lib.Dec.{eqb}
 use lib.ListN.{length}
-use borrow.Author.Tests.{le-leb, lt-leb}
-use Rattle.mesh.specs.Mesh.{R}
 use Rattle.stations.proofs.Bools.{never}
 use Rattle.mesh.specs.Table.{linked, Table, Fault, self_link, one_sided, from_n_up}
 use Rattle.mesh.proofs.NeverMore.{never_more}
 use Rattle.card.specs.declared.Refusal.{Refusal}
 use Rattle.card.specs.declared.Refusal.TheVariants.{Level, Stations, TableLength, ListRoom, Set, Station, Mark, Version, Count, Length, Serial, Link, Room, Rows}
-use Rattle.card.specs.Card.{number, Test, FirstFailing, earlier, LEVEL, table_order, ROWS}
+use Rattle.card.specs.Card.{number, Test, FirstFailing, LEVEL, table_order, ROWS}
 use Rattle.card.proofs.TableTest.{accepted}
 
 -- two numbers that are both that of the first failing test are the same
@@ -48,30 +46,11 @@ passes_none (t ∷ ts) p = inr (p.0, passes_none ts p.1)
 pub none_given : (ts : List Test) (r : ℕ) → FirstFailing ts r → Passes ts → r ≡ 0
 none_given ts r f p = first_one ts r 0 f (passes_none ts p)
 
--- first these tests, then those
-pub first_then : (ts us : List Test) (a b : ℕ) → Numbered ts → FirstFailing ts a → FirstFailing us b → FirstFailing (ts ++ us) (earlier a b)
-first_then [] us a b m p q = rw p q
-first_then (t ∷ ts) us zero b m (inl p) q = absurd (omega (arith, m.0, p.1))
-first_then (t ∷ ts) us (suc a) b m (inl p) q = inl p
-first_then (t ∷ ts) us a b m (inr p) q = inr (p.0, first_then ts us a b m.1 p.1 q)
-
--- a refusal has a number above 0
-pub number_first : (r : Refusal) (b : ℕ) → earlier (number r) b ≡ number r
-number_first Level b = refl
-number_first Stations b = refl
-number_first TableLength b = refl
-number_first Refusal.Table b = refl
-number_first ListRoom b = refl
-number_first Set b = refl
-number_first Station b = refl
-number_first Mark b = refl
-number_first Version b = refl
-number_first Count b = refl
-number_first Length b = refl
-number_first Serial b = refl
-number_first Link b = refl
-number_first Room b = refl
-number_first Rows b = refl
+-- none of the first list fails, so the later ones decide
+pub first_go : (ts us : List Test) (a : ℕ) → Numbered ts → FirstFailing ts 0 → FirstFailing us a → FirstFailing (ts ++ us) a
+first_go [] us a m p q = q
+first_go (t ∷ ts) us a m (inl p) q = absurd (omega (arith, m.0, p.1))
+first_go (t ∷ ts) us a m (inr p) q = inr (p.0, first_go ts us a m.1 p.1 q)
 
 -- the refusal of a number, and so a number of the card is that of one refusal only
 refusal_of : ℕ → Refusal
@@ -101,7 +80,27 @@ refusal_one r r' e = sym (refusal_back r) ∙ ap refusal_of e ∙ refusal_back r
 
 -- a refusal's number is above 0
 pub number_above : (r : Refusal) → number r ≡ 0 → ⊥
-number_above r e = omega (arith, sym (number_first r 1), ap (λ (a : ℕ). earlier a 1) e)
+number_above Level e = omega arith
+number_above Stations e = omega arith
+number_above TableLength e = omega arith
+number_above Refusal.Table e = omega arith
+number_above ListRoom e = omega arith
+number_above Set e = omega arith
+number_above Station e = omega arith
+number_above Mark e = omega arith
+number_above Version e = omega arith
+number_above Count e = omega arith
+number_above Length e = omega arith
+number_above Serial e = omega arith
+number_above Link e = omega arith
+number_above Room e = omega arith
+number_above Rows e = omega arith
+
+-- a test of the first list refuses, so the later ones do not count
+pub first_stop : (ts us : List Test) (r : Refusal) → FirstFailing ts (number r) → FirstFailing (ts ++ us) (number r)
+first_stop [] us r p = absurd (number_above r p)
+first_stop (t ∷ ts) us r (inl p) = inl p
+first_stop (t ∷ ts) us r (inr p) = inr (p.0, first_stop ts us r p.1)
 
 -- the tests of a table are numbered, and a table that passes them is an accepted one
 pub table_numbered : (n : ℕ) (t : List ℕ) → Numbered (table_order n t)
@@ -130,13 +129,6 @@ table_passes n t us T p = (λ x. omega (arith, T.few), (λ x. x T.long, (faultle
 pub level_passes : (k : ℕ) → 1 ≤ k → k ≤ 16 → ¬ (LEVEL k).fails
 level_passes k a b (inl x) = omega arith
 level_passes k a b (inr x) = omega arith
-
--- ---- the rows of a list
-pub no_rows : (n k : ℕ) → n ≤ k → 0 ≡ R n k
-no_rows n k l = rw (le-leb n k l)
-
-pub some_rows : (n k : ℕ) → k < n → (n - k) / 2 + (n - k) % 2 ≡ R n k
-some_rows n k l = rw (lt-leb n k l) (omega arith)
 
 -- ---- 15 is never given
 pub rows_pass : (n : ℕ) (t : List ℕ) (k : ℕ) → ¬ (ROWS n t k).fails

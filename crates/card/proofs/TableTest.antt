@@ -3,22 +3,22 @@ use mathlib.Core.Bool.{Bool, true, false, not, ◌&&◌, Bool-discrete}
 use mathlib.Core.List.{List, [], ◌∷◌}
 use mathlib.Core.Logic.{◌⊎◌, inl, inr}
 use mathlib.Core.Path.{◌≡◌, refl, sym, ap, ◌∙◌}
-use Prim.Native.Nat.{ℕ, ◌+◌, ◌-◌, ◌*◌, ◌/◌, ◌%◌, ◌^◌, ◌<◌, ◌≤◌}
-use native.Mathlib.Decide.{dec_lt}
+use Prim.Native.Nat.{ℕ, ◌+◌, ◌*◌, ◌/◌, ◌%◌, ◌^◌, ◌<◌, ◌≤◌}
+use native.Mathlib.Decide.{dec_lt, ℕ_discrete}
 use native.Mathlib.Omega.{arith}
 use lib.Bits.{bit_and}
-use lib.Count.{count_trailing_zeros}
-use lib.Dec.{ltb}
+use lib.Dec.{ltb, eqb}
 use lib.ListN.{length, get_or, get_or-eq_default}
-use borrow.Author.Tests.{eq-eqb, ne_eqb, ltb-true, ltb-false, le-ltb, not-false}
+use borrow.Author.Tests.{eq-eqb, ne_eqb, ltb-false, le-ltb}
+use Rattle.stations.specs.Sets.{Set, ◌is_in◌, ◌not_in◌, ◌part_of◌}
+use Rattle.stations.specs.Answers.{Taken}
 use Rattle.stations.specs.Words.{bit, has, row}
-use Rattle.stations.proofs.Bools.{test, never, not_true, not_so, and_left, and_right, and_off}
+use Rattle.stations.proofs.Bools.{test, never, not_true, not_so, and_left, and_right, and_whole}
 use Rattle.stations.proofs.Counting.{any_below}
 use Rattle.stations.proofs.Bit.{bit_test, bit-none}
-use Rattle.stations.proofs.Laws.{row_word, has_small, has_beyond, by_words, of_word}
-use Rattle.stations.proofs.Walk.{Walk, walk_begin, walk_end, walk_next, walk_past}
-use Rattle.mesh.specs.Table.{linked, Fits, Table, Fault, self_link, one_sided, from_n_up}
-use Rattle.card.specs.Tests.{Mirrored, MirroredRow, RowFault}
+use Rattle.stations.proofs.Laws.{row_word, has_small, has_beyond}
+use Rattle.mesh.specs.Table.{linked, Table, Fault, self_link, one_sided, from_n_up}
+use Rattle.card.specs.Tests.{MirroredRow, RowFault}
 use Rattle.card.specs.Card.{Says, FirstFailing, SET}
 use Rattle.mesh.specs.Mesh.{Mesh}
 use Rattle.std.specs.Prelude.{HoldsAt}
@@ -33,40 +33,26 @@ linked_yes t v i h e = row_word t v i h ∙ sym (bit_test (get_or t (v * 4 + i /
 pub linked_no : (t : List ℕ) (v i : ℕ) → i < 256 → (bit_and (get_or t (v * 4 + i / 64) 0 / 2 ^ (i % 64)) 1 ≡ 1 → ⊥) → linked t v i ≡ false
 linked_no t v i h e = row_word t v i h ∙ sym (bit_test (get_or t (v * 4 + i / 64) 0) (i % 64)) ∙ ne_eqb (bit_and (get_or t (v * 4 + i / 64) 0 / 2 ^ (i % 64)) 1) 1 e
 
--- ---- the walk over a word of the row i: the stations past have i in their rows
-pub record Mirroring (t : List ℕ) (i base w x : ℕ) : Type 0 where
-  pub walk : Walk w x
-  pub past : (j : ℕ) → j < 64 → bit w j ≡ true → bit x j ≡ false → linked t (base + j) i ≡ true
+-- ---- the walk over the stations of row i: those past have i in their rows, and `left` are still to come
+pub record Mirroring (t : List ℕ) (i : ℕ) (row left : Set) : Type 0 where
+  pub mine : left part_of row
+  pub past : (j : ℕ) → j is_in row → j not_in left → linked t j i ≡ true
 
-pub mirroring_none : (t : List ℕ) (i base w : ℕ) → w < 2 ^ 64 → Mirroring t i base w w
-mirroring_none t i base w h = record { walk = walk_begin w h; past = λ j l e f. never (bit w j) e f }
+pub mirroring_none : (t : List ℕ) (i : ℕ) (row : Set) → Mirroring t i row row
+mirroring_none t i row = record { mine = λ j e. e; past = λ j e f. never (row j) e f }
 
-pub mirroring_more : {t : List ℕ} {i base w x : ℕ} → Mirroring t i base w x → (x ≡ 0 → ⊥) → linked t (base + count_trailing_zeros 64 x) i ≡ true
-    → Mirroring t i base w (bit_and x (x - 1))
-mirroring_more {t} {i} {base} {w} {x} g z e = record {
-  walk = walk_next g.walk z;
-  past = λ j l b f. elim (walk_past g.walk z j f) [ inl p ↦ g.past j l b p | inr q ↦ rw q e ];
-}
+pub mirroring_more : {t : List ℕ} {i j : ℕ} {row left left' : Set} → Mirroring t i row left → Taken left j left' → linked t j i ≡ true → Mirroring t i row left'
+mirroring_more {t} {i} {j} {row} {left} {left'} g p e = record { mine = λ x m. g.mine x (and_left (left x) (not (eqb x j)) (sym (p.rest x) ∙ m)); past = λ x m f. go x m f (ℕ_discrete x j) }
+  where
+    go : (x : ℕ) → x is_in row → x not_in left' → Dec (x ≡ j) → linked t x i ≡ true
+    go x m f (yes q) = rw q e
+    go x m f (no d) = g.past x m (sym (and_whole (left x)) ∙ ap (λ (b : Bool). left x && not b) (sym (ne_eqb x j d)) ∙ sym (p.rest x) ∙ f)
 
-pub mirrored_all : {t : List ℕ} {i base w x : ℕ} → Mirroring t i base w x → x ≡ 0 → Mirrored t i base w true
-mirrored_all {t} {i} {base} {w} {x} g z = record { each = λ _ j l b. g.past j l b (walk_end x j z); one = λ e. never true refl e }
+pub mirrored_all : {t : List ℕ} {i : ℕ} {row left : Set} → Mirroring t i row left → ((x : ℕ) → x not_in left) → MirroredRow t i row true
+mirrored_all g z = record { each = λ _ j m. g.past j m (z j); one = λ e. never true refl e }
 
-pub mirrored_one : {t : List ℕ} {i base w : ℕ} (j : ℕ) → j < 64 → bit w j ≡ true → linked t (base + j) i ≡ false → Mirrored t i base w false
-mirrored_one j l b f = record { each = λ e. never false e refl; one = λ _. (j, l, b, f) }
-
--- ---- the four words of a row
-pub mirrored_not : {t : List ℕ} {i base w : ℕ} {r : Bool} → Mirrored t i base w r → r ≡ false → (ws : List ℕ) (q : ℕ) → get_or ws q 0 ≡ w → base ≡ q * 64
-    → MirroredRow t i (has ws) false
-mirrored_not {t} {i} {base} {w} m e ws q f g =
-    let (j, l, b, o) = m.one e in
-    record { each = λ h. never false h refl; one = λ _. (base + j, of_word ws q base j g l (rw f b), o) }
-
-pub mirrored_four : {t : List ℕ} {i a b c d : ℕ} {p q s r : Bool} → Mirrored t i 0 a p → p ≡ true → Mirrored t i 64 b q → q ≡ true → Mirrored t i 128 c s → s ≡ true
-    → Mirrored t i 192 d r → MirroredRow t i (has (a ∷ b ∷ c ∷ d ∷ [])) r
-mirrored_four {t} {i} {a} {b} {c} {d} ma ea mb eb mc ec md = record {
-  each = λ e. by_words a b c d (λ x. linked t x i ≡ true) (ma.each ea) (mb.each eb) (mc.each ec) (md.each e);
-  one = λ e. let (j, l, h, o) = md.one e in (192 + j, of_word (a ∷ b ∷ c ∷ d ∷ []) 3 192 j refl l h, o);
-}
+pub mirrored_one : {t : List ℕ} {i j : ℕ} {row left : Set} → Mirroring t i row left → j is_in left → linked t j i ≡ false → MirroredRow t i row false
+mirrored_one {j = j} g m f = record { each = λ e. never false e refl; one = λ _. (j, g.mine j m, f) }
 
 -- ---- a row, and all rows
 pub row_self : (n : ℕ) (t : List ℕ) (a : ℕ) → linked t a a ≡ true → Says (RowFault n t a) true
@@ -88,18 +74,6 @@ row_high n t a h = record { yes_so = λ _. inr (go (any_below Q dec 256)); not_s
     go : Dec ((x : ℕ) × (x < 256) × Q x) → (b : ℕ) × (linked t a b ≡ true) × ((n ≤ b) ⊎ (linked t b a ≡ false))
     go (yes (x, l, e)) = (x, (high x e).0, inl (high x e).1)
     go (no o) = absurd (h (λ x. not_so (linked t a x && not (ltb x n)) (λ e. o (x, has_small (row t a) x refl (high x e).0, e))))
-
-pub row_told : (n : ℕ) (t : List ℕ) (a : ℕ) (r : Bool) → linked t a a ≡ false → ((x : ℕ) → (linked t a x && not (ltb x n)) ≡ false) → MirroredRow t a (has (row t a)) r
-    → Says (RowFault n t a) (not r)
-row_told n t a r s z m = record { yes_so = λ e. inr (go (m.one (not_true r e))); not_so = λ e f. bad (not-false r e) f }
-  where
-    go : (b : ℕ) × (linked t a b ≡ true) × (linked t b a ≡ false) → (b : ℕ) × (linked t a b ≡ true) × ((n ≤ b) ⊎ (linked t b a ≡ false))
-    go (b, l, o) = (b, l, inr o)
-
-    bad : r ≡ true → RowFault n t a → ⊥
-    bad e (inl f) = never (linked t a a) f s
-    bad e (inr (b, l, inl g)) = never (linked t a b && not (ltb b n)) (rw (l, le-ltb b n g)) (z b)
-    bad e (inr (b, l, inr o)) = never (linked t b a) (m.each e b l) o
 
 pub fault_of : (n : ℕ) (t : List ℕ) (a : ℕ) → a < n → RowFault n t a → Fault n t
 fault_of n t a l (inl e) = self_link a l e
@@ -167,10 +141,6 @@ accepted n t f e h = record { few = f; long = e; apart = λ a. self a (test (lin
 -- and its links are a mesh
 pub table_mesh : {n : ℕ} {t : List ℕ} → Table n t → Mesh (linked t)
 table_mesh T = record { apart = T.apart; both = T.both }
-
--- a row with no station from n up: each of its stations has a row
-pub row_fits : (n : ℕ) (t : List ℕ) (a : ℕ) → length t ≡ n * 4 → ((x : ℕ) → (linked t a x && not (ltb x n)) ≡ false) → Fits t (linked t a)
-row_fits n t a e z x h = omega (arith, ltb-true x n (not-false (ltb x n) (and_off (linked t a x) (not (ltb x n)) (z x) h)))
 
 -- ---- a lent set
 module _ (n : ℕ) (s : List ℕ) (four_words : length s ≡ 4) where

@@ -4,7 +4,7 @@
 --   Test                  a line of the card put to an input: its number, and what it is given exactly for
 --   FirstFailing ts r     r is the number of the first test of the list that fails; 0 where none does
 --   LEVEL k, STATIONS n, ..   the lines of the card
-use Rattle.std.specs.Prelude.{Bool, true, false, Result, Ok, Err, List, [], ◌∷◌, ◌⊎◌, ◌≡◌, ℕ, zero, suc, ◌*◌, ◌<◌, ◌≤◌, length}
+use Rattle.std.specs.Prelude.{Bool, true, false, Result, Ok, Err, List, [], ◌∷◌, ◌⊎◌, ◌≡◌, ℕ, ◌*◌, ◌<◌, ◌≤◌, length}
 use Rattle.stations.specs.Sets as sets
 use Rattle.stations.specs.Sets.{◌is_in◌}
 use Rattle.stations.specs.Words.{has}
@@ -44,11 +44,6 @@ pub record Test : Type 1 where
 abbrev pub FirstFailing : List Test → ℕ → Type 0
 FirstFailing [] r = r ≡ 0
 FirstFailing (t ∷ ts) r = (t.fails × (r ≡ t.refusal)) ⊎ ((¬ t.fails) × FirstFailing ts r)
-
--- the first of two numbers that is not 0
-abbrev pub earlier : ℕ → ℕ → ℕ
-earlier zero b = b
-earlier (suc a) b = suc a
 
 -- r says whether P
 pub record Says (P : Type 0) (r : Bool) : Type 0 where

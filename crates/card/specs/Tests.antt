@@ -1,13 +1,7 @@
 -- What the steps of the table test say.
-use Rattle.std.specs.Prelude.{Bool, true, false, List, ◌⊎◌, ◌≡◌, ℕ, ◌+◌, ◌<◌, ◌≤◌}
+use Rattle.std.specs.Prelude.{Bool, true, false, List, ◌⊎◌, ◌≡◌, ℕ, ◌≤◌}
 use Rattle.stations.specs.Sets.{Set, ◌is_in◌}
-use Rattle.stations.specs.Words.{bit}
 use Rattle.mesh.specs.Table.{linked}
-
--- each station base + j, for a set bit j of w, has station i in its row; or one has not
-pub record Mirrored (t : List ℕ) (i base w : ℕ) (r : Bool) : Type 0 where
-  pub each : r ≡ true → (j : ℕ) → j < 64 → bit w j ≡ true → linked t (base + j) i ≡ true
-  pub one : r ≡ false → (j : ℕ) × (j < 64) × (bit w j ≡ true) × (linked t (base + j) i ≡ false)
 
 -- each station of the row has station i in its own row, or one has not
 pub record MirroredRow (t : List ℕ) (i : ℕ) (row : Set) (r : Bool) : Type 0 where

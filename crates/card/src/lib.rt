@@ -1,14 +1,17 @@
 // The refusal card, and the tests that every question about a table begins with.
 #![tactic(auto)]
 
-ghost use Rattle.std.specs.Prelude.{[], ◌∷◌, true, ◌≡◌, ℕ, ◌+◌, ◌*◌, ◌<◌, ◌≤◌, length};
-ghost use Rattle.stations.specs.Words.{bit, members};
+ghost use Rattle.std.specs.Prelude.{[], ◌∷◌, ◌≡◌, ℕ, ◌+◌, ◌*◌, ◌<◌, ◌≤◌, length};
+ghost use Rattle.stations.specs.Words.{members};
 ghost use Rattle.mesh.specs.Mesh.{R};
 ghost use Rattle.mesh.specs.Table.{Fits, Fault};
 ghost use Rattle.card.specs.Card.{number, number_of, FirstFailing, Says, LEVEL, LIST_ROOM, SET, STATION, PAIR, table_order};
-ghost use Rattle.card.specs.Tests.{Mirrored, MirroredRow, RowFault};
+ghost use Rattle.card.specs.Tests.{MirroredRow, RowFault};
 
+pub use accepted::Mesh;
 use stations::StationSet;
+
+mod accepted;
 
 // The card (docs/CARD.md): each refusal with its number.
 #[derive(Clone, Copy)]
@@ -118,37 +121,17 @@ pub fn test_set(n: usize, set: &[u64]) -> Result<(), Refusal>
     Ok(())
 }
 
-// Does each station base + j, for a set bit j of w, have station i in its row?
-fn mirrored(table: &[u64], i: usize, base: usize, w: u64) -> bool
-    requires { (i < 256) × (base ≤ 192) × ((j : ℕ) → j < 64 → bit w j ≡ true → (base + j) * 4 + 4 ≤ length table.now) }
-    ensures { Mirrored table.now i base w result }
-{
-    let mut x = w;
-    while x != 0 {
-        let j = base + stations::low_bit(x);
-        if table[j * 4 + i / 64] >> (i % 64) & 1 != 1 {
-            return false;
-        }
-        x = x & (x - 1);
-    }
-    true
-}
-
 // Does each station of the row have station i in its own row?
-fn mirrored_row(table: &[u64], i: usize, row: StationSet) -> bool
+fn mirrored(table: &[u64], i: usize, row: StationSet) -> bool
     requires { (i < 256) × Fits table.now (members row) }
     ensures { MirroredRow table.now i (members row) result }
 {
-    if !mirrored(table, i, 0, row.a) {
-        return false;
+    for j in row {
+        if table[j * 4 + i / 64] >> (i % 64) & 1 != 1 {
+            return false;
+        }
     }
-    if !mirrored(table, i, 64, row.b) {
-        return false;
-    }
-    if !mirrored(table, i, 128, row.c) {
-        return false;
-    }
-    mirrored(table, i, 192, row.d)
+    true
 }
 
 // Has the row i a self link, a bit from n up, or a link that the other row lacks?
@@ -157,13 +140,7 @@ fn row_fails(table: &[u64], n: usize, i: usize) -> bool
     ensures { Says (RowFault n table.now i) result }
 {
     let row = StationSet::of_row(table, i);
-    if row.has(i) {
-        return true;
-    }
-    if !row.minus(StationSet::first_n(n)).is_empty() {
-        return true;
-    }
-    !mirrored_row(table, i, row)
+    row.has(i) || !row.minus(StationSet::first_n(n)).is_empty() || !mirrored(table, i, row)
 }
 
 // Has any row a fault?

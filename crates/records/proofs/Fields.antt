@@ -1,11 +1,16 @@
 -- The laws of fields: a number that is put at a place stands there, and what lies below the place stays as it was.
 use mathlib.Core.List.{List, ◌++◌}
-use mathlib.Core.Path.{◌≡◌, refl, sym, ap₂, ◌∙◌, subst}
-use Prim.Native.Nat.{ℕ, ◌+◌, ◌*◌, ◌/◌, ◌%◌, ◌<◌, ◌≤◌}
+use mathlib.Core.Path.{◌≡◌, refl, sym, ap, ap₂, ◌∙◌, subst}
+use Prim.Native.Nat.{ℕ, ◌+◌, ◌*◌, ◌^◌, ◌<◌, ◌≤◌}
 use native.Mathlib.Decide.{dec_lt}
 use native.Mathlib.Omega.{arith}
-use lib.ListN.{length, get_or, set, length-set, get_or-append, get_or-eq_default}
-use lib.Seq.{get_or-set_same, get_or-set_other}
+use lib.ListN.{length, get_or, get_or-append, get_or-eq_default}
+use borrow.Author.Rules.{rules}
+use borrow.Rule.Slice.PartMut.{put_mid}
+use Rattle.std.specs.Int.{w16, w32, to_le_bytes}
+use Rattle.std.proofs.Common.{add-zero}
+use Rattle.std.proofs.lemmas.Slice.{overwrites}
+use Rattle.std.proofs.lemmas.List.{places}
 use Rattle.records.specs.Bytes.{short, long, Octets, Kept}
 
 -- ---- what is kept
@@ -26,25 +31,30 @@ pub long_kept : {at : ℕ} {bs bs' : List ℕ} (i : ℕ) → Kept at bs bs' → 
 unfolding long
 long_kept i K h = ap₂ (λ (x y : ℕ). x + y * 65536) (short_kept i K (omega arith)) (short_kept (i + 2) K (omega arith))
 
--- ---- what is put
-pub set_kept : (bs : List ℕ) (at u : ℕ) → Kept at bs (set bs at u)
-set_kept bs at u = record { whole = length-set bs at u; same = λ i l. get_or-set_other bs at i u 0 (λ e. omega arith) }
+-- ---- what is put: the bytes xs copied to a place
+module _ (bs xs : List ℕ) (at k : ℕ) (room : at + k ≤ length bs) (all : length xs ≡ k) where
+  pub copied_kept : Kept at bs (put_mid at k bs xs)
+  copied_kept = record { whole = search (rules, overwrites); same = λ i l. search (rules, places) }
 
-pub two_kept : (bs : List ℕ) (at u v : ℕ) → Kept at bs (set (set bs at u) (at + 1) v)
-two_kept bs at u v = kept_trans (set_kept bs at u) (set_kept (set bs at u) (at + 1) v) (omega arith)
+  pub copied_at : (i : ℕ) → i < k → get_or (put_mid at k bs xs) (at + i) 0 ≡ get_or xs i 0
+  copied_at i l = search (rules, places)
 
-pub two_short : (bs : List ℕ) (at x : ℕ) → at + 2 ≤ length bs → short (set (set bs at (x % 256)) (at + 1) (x / 256)) at ≡ x
-unfolding short
-two_short bs at x h =
-    ap₂ (λ (p q : ℕ). p + q * 256)
-    (get_or-set_other (set bs at (x % 256)) (at + 1) at (x / 256) 0 (λ e. omega arith) ∙ get_or-set_same bs at (x % 256) 0 (omega arith))
-    (get_or-set_same (set bs at (x % 256)) (at + 1) (x / 256) 0 (omega (arith, length-set bs at (x % 256))))
-    ∙ omega arith
+  pub copied_short : (x : ℕ) → k ≡ 2 → x < 2 ^ 16 → xs ≡ to_le_bytes w16 x → short (put_mid at k bs xs) at ≡ x
+  unfolding short
+  copied_short x two h e =
+      ap₂ (λ (p q : ℕ). p + q * 256) (rw add-zero at (copied_at 0 (omega arith)) ∙ ap (λ (ys : List ℕ). get_or ys 0 0) e)
+      (copied_at 1 (omega arith) ∙ ap (λ (ys : List ℕ). get_or ys 1 0) e)
+      ∙ omega arith
 
--- two numbers of 16 bits are one of 32
-pub two_long : {bs bs' : List ℕ} (at x : ℕ) → Kept (at + 2) bs bs' → short bs at ≡ x % 65536 → short bs' (at + 2) ≡ x / 65536 → long bs' at ≡ x
-unfolding long
-two_long at x K p q = ap₂ (λ (u v : ℕ). u + v * 65536) (short_kept at K (omega arith) ∙ p) q ∙ omega arith
+  pub copied_long : (x : ℕ) → k ≡ 4 → x < 2 ^ 32 → xs ≡ to_le_bytes w32 x → long (put_mid at k bs xs) at ≡ x
+  unfolding short long
+  copied_long x four h e =
+      ap₂ (λ (p q : ℕ). p + q * 65536)
+      (ap₂ (λ (p q : ℕ). p + q * 256) (rw add-zero at (copied_at 0 (omega arith)) ∙ ap (λ (ys : List ℕ). get_or ys 0 0) e)
+      (copied_at 1 (omega arith) ∙ ap (λ (ys : List ℕ). get_or ys 1 0) e))
+      (ap₂ (λ (p q : ℕ). p + q * 256) (copied_at 2 (omega arith) ∙ ap (λ (ys : List ℕ). get_or ys 2 0) e)
+      (ap (λ (i : ℕ). get_or (put_mid at k bs xs) i 0) (omega arith) ∙ copied_at 3 (omega arith) ∙ ap (λ (ys : List ℕ). get_or ys 3 0) e))
+      ∙ omega arith
 
 -- ---- numbers and bytes
 pub short_small : (bs : List ℕ) (i : ℕ) → Octets bs → short bs i < 65536

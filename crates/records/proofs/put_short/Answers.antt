@@ -1,6 +1,8 @@
+use mathlib.Core.Path.{◌∙◌}
 use native.Mathlib.Omega.{arith}
-use Rattle.records.proofs.Fields.{two_kept, two_short}
+use Rattle.records.proofs.Fields.{copied_kept, copied_short}
 use Rattle.records.proofs.put_short.Goals as goal
 
 pub returns : goal.returns
-returns c = (two_kept c.args.bytes.now c.args.at _ _, two_short c.args.bytes.now c.args.at c.args.x (omega arith))
+returns c = let bs = c.args.bytes.now in
+    (copied_kept bs _ c.args.at _ (omega arith) (omega arith), copied_short bs _ c.args.at _ (omega arith) (omega arith) c.args.x (omega arith) (omega arith) (c.copy_from_slice.ensures.after ∙ c.to_le_bytes.ensures))

@@ -1,10 +1,6 @@
-use Prim.Native.Nat.{◌≤◌, ◌-◌}
 use Rattle.records.specs.Survey.{low, high}
 use Rattle.records.proofs.Climbing.{LinkClimb}
 use Rattle.records.proofs.test_links.Given as goal
 
 abbrev pub invariant-loop-j : goal.invariant-loop-j
-invariant-loop-j l = (l.j ≤ l.m) × (l.floor ≤ 65536) × LinkClimb l.n (low 4 l.n l.bytes) (high 4 l.n l.bytes) l.j l.floor
-
-abbrev pub decreases-loop-j : goal.decreases-loop-j
-decreases-loop-j l = l.m - l.j
+invariant-loop-j l = LinkClimb l.n (low 4 l.n l.bytes) (high 4 l.n l.bytes) l.j l.last
