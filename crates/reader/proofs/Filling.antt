@@ -8,7 +8,8 @@ use Prim.Native.Nat.{ℕ, ◌+◌, ◌*◌, ◌<◌, ◌≤◌}
 use native.Mathlib.Decide.{dec_lt, ℕ_discrete}
 use native.Mathlib.Omega.{arith}
 use lib.Dec.{eqb}
-use lib.ListN.{length, get_or, set, length-set, get_or-eq_default}
+use lib.ListN.{length, get_or, set, replicate, length-set, get_or-eq_default}
+use Rattle.std.proofs.lemmas.List.{get_or-replicate, length-replicate}
 use lib.Seq.{get_or-set_same, get_or-set_other}
 use borrow.Author.Tests.{eq-eqb, eqb-true}
 use Rattle.stations.proofs.Bools.{test, never, and_left, and_right, and_in, or_cases, or_left, or_right}
@@ -123,16 +124,9 @@ module _ {bs : List ℕ} {n m : ℕ} (A : Accepted bs n m) {t : List ℕ} (F : F
   }
 
 -- ---- zeros
-pub zeros_more : (t : List ℕ) (i : ℕ) → i < length t → ((k : ℕ) → k < i → get_or t k 0 ≡ 0) → (k : ℕ) → k < i + 1 → get_or (set t i 0) k 0 ≡ 0
-zeros_more t i l z k h = go (ℕ_discrete k i)
+pub zeros : (n : ℕ) {t : List ℕ} → t ≡ replicate n 0 → (k : ℕ) → ◌≡◌ {A = ℕ} (get_or t k 0) 0
+zeros n e k = rw e (go (dec_lt k n))
   where
-    go : Dec (k ≡ i) → get_or (set t i 0) k 0 ≡ 0
-    go (yes e) = rw e (get_or-set_same t i 0 0 l)
-    go (no d) = get_or-set_other t i k 0 0 d ∙ z k (omega arith)
-
-pub zeros_all : (t : List ℕ) (w : ℕ) → length t ≡ w → ((k : ℕ) → k < w → get_or t k 0 ≡ 0) → (k : ℕ) → get_or t k 0 ≡ 0
-zeros_all t w e z k = go (dec_lt k w)
-  where
-    go : Dec (k < w) → get_or t k 0 ≡ 0
-    go (yes l) = z k l
-    go (no l) = get_or-eq_default t 0 {n = k} (omega arith)
+    go : Dec (k < n) → ◌≡◌ {A = ℕ} (get_or (replicate n 0) k 0) 0
+    go (yes l) = get_or-replicate n k 0 0 l
+    go (no l) = get_or-eq_default (replicate n 0) 0 {n = k} (omega (arith, length-replicate {A = ℕ} n 0))
