@@ -10,6 +10,10 @@ use lib.Bits.{bit_and}
 use lib.Dec.{ltb, eqb}
 use lib.ListN.{length, get_or, get_or-eq_default}
 use borrow.Author.Tests.{eq-eqb, ne_eqb, ltb-false, le-ltb}
+use Rattle.std.specs.Prelude.{HoldsAt}
+use Rattle.std.specs.List.{range_with_len, AllWithin}
+use Rattle.std.specs.Bool.{MatchBool}
+use Rattle.std.proofs.lemmas.List.FromFn.{length-range_with_len, get_or-range_with_len}
 use Rattle.stations.specs.Sets.{Set, ◌is_in◌, ◌not_in◌, ◌part_of◌}
 use Rattle.stations.specs.Answers.{Taken}
 use Rattle.stations.specs.Words.{bit, has, row}
@@ -21,10 +25,6 @@ use Rattle.mesh.specs.Table.{linked, Table, Fault, self_link, one_sided, from_n_
 use Rattle.card.specs.Tests.{MirroredRow, RowFault}
 use Rattle.card.specs.Card.{Says, FirstFailing, SET}
 use Rattle.mesh.specs.Mesh.{Mesh}
-use Rattle.std.specs.Prelude.{HoldsAt}
-use Rattle.std.specs.List.{range_with_len, AllWithin}
-use Rattle.std.specs.Bool.{MatchBool}
-use Rattle.std.proofs.lemmas.List.FromFn.{length-range_with_len, get_or-range_with_len}
 
 -- ---- the code's reading of one bit of the table
 pub linked_yes : (t : List ℕ) (v i : ℕ) → i < 256 → bit_and (get_or t (v * 4 + i / 64) 0 / 2 ^ (i % 64)) 1 ≡ 1 → linked t v i ≡ true
