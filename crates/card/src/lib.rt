@@ -8,7 +8,10 @@ ghost use Rattle.mesh.specs.Table.{Fits, Fault};
 ghost use Rattle.card.specs.Card.{number, number_of, FirstFailing, Says, LEVEL, LIST_ROOM, SET, STATION, PAIR, table_order};
 ghost use Rattle.card.specs.Tests.{MirroredRow, RowFault};
 
+pub use accepted::Mesh;
 use stations::StationSet;
+
+mod accepted;
 
 // The card (docs/CARD.md): each refusal with its number.
 #[derive(Clone, Copy)]

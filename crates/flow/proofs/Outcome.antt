@@ -6,15 +6,14 @@ use mathlib.Core.Logic.{⊎_elim}
 use mathlib.Core.Path.{◌≡◌, refl, sym, ap, ◌∙◌, subst, fun_ext}
 use Prim.Native.Nat.{ℕ, suc, ◌+◌, ◌<◌, ◌≤◌}
 use native.Mathlib.Numerals.{add-one}
-use native.Mathlib.Omega.{arith}
 use Rattle.stations.specs.Sets.{Set, ◌is_in◌, ◌not_in◌, ◌without◌, ◌cut◌, ◌joined◌, only, size}
 use Rattle.stations.specs.Words.{words, members}
 use Rattle.stations.specs.declared.StationSet.{StationSet}
 use Rattle.stations.proofs.Laws.{has_small}
 use Rattle.linkage.specs.Net.{Family}
-use Rattle.linkage.specs.Linkage.{Linkage, marked}
+use Rattle.linkage.specs.Linkage.{Linkage}
 use Rattle.stations.proofs.Members.{of_without, of_cut, of_joined, only_is}
-use Rattle.stations.proofs.Counting.{size_ext, size_le}
+use Rattle.stations.proofs.Counting.{size_ext}
 use Rattle.linkage.proofs.Chains.{first_linkage, family_fewer, chains}
 use Rattle.linkage.proofs.Cuts.{parts_more, cut_parts, cut_size}
 use Rattle.flow.specs.Net.{net_of, Solved}
@@ -52,10 +51,6 @@ module _ (t : List ℕ) (inner starts ends first : StationSet) (law : (w : ℕ) 
 
 module _ {t : List ℕ} {inner starts ends : StationSet} where
   module _ {first : StationSet} {hold : List ℕ} {c : ℕ} (H : Held t inner starts ends first hold c) where
-    -- no more chains than stations
-    pub held_small : c ≤ 256
-    held_small = omega (arith, H.linkage.starts, size_le 256 (members inner cut marked (net_of t inner starts ends) (read (members first) hold)))
-
     -- the search came to an end: the way back, and the linkage after it
     pub held_start : {from : List ℕ} {h : ℕ} → Came (net_of t inner starts ends) starts (members first) hold from h → Start starts hold from h
     held_start C = record {

@@ -1,7 +1,7 @@
 -- What `flow` answers about the net between two sets of ends, in a table of links.
 --   net_of t inner starts ends    the net
 --   Flow N limit r               as many chains as the limit, that share no station; or fewer, with a loss of as many stations that leaves none
-use Rattle.std.specs.Prelude.{List, ◌≡◌, refl, ℕ, ◌<◌}
+use Rattle.std.specs.Prelude.{List, Option, Some, None, ◌≡◌, refl, ℕ, ◌<◌}
 use Rattle.stations.specs.Sets.{◌part_of◌, size}
 use Rattle.stations.specs.Words.{words, members}
 use Rattle.stations.specs.declared.StationSet.{StationSet}
@@ -9,7 +9,6 @@ use Rattle.stations.proofs.Laws.{has_small}
 use Rattle.mesh.specs.Table.{linked}
 use Rattle.linkage.specs.Net.{Net, Family, Parts}
 use Rattle.flow.specs.declared.Cut.{Cut}
-use Rattle.flow.specs.declared.Cut.TheVariants.{Many, Few}
 
 -- The net of the stations `inner`, with the links of the table t, from the stations `starts` to the stations `ends`.
 abbrev pub net_of : List ℕ → StationSet → StationSet → StationSet → Net
@@ -32,6 +31,6 @@ pub record Solved (N : Net) (limit c : ℕ) (s : StationSet) : Type 0 where
   pub exact : size 256 (members s) ≡ c
 
 -- as many chains as the limit, that share no station; or fewer, with a loss
-abbrev pub Flow : Net → ℕ → Cut → Type 0
-Flow N limit Many = Family N limit
-Flow N limit (Few c s) = Solved N limit c s
+abbrev pub Flow : Net → ℕ → Option Cut → Type 0
+Flow N limit None = Family N limit
+Flow N limit (Some r) = Solved N limit r.chains r.loss

@@ -1,6 +1,6 @@
 -- What `between` answers about two stations a and b of a set. Their own link is left out, so that a linked pair can be asked about too; where they
 -- are not linked, the other links are all links.
-use Rattle.std.specs.Prelude.{List, ◌≢◌, ◌≡◌, ℕ, ◌<◌}
+use Rattle.std.specs.Prelude.{List, Option, Some, None, ◌≢◌, ◌≡◌, ℕ, ◌<◌}
 use Rattle.stations.specs.Sets.{◌is_in◌, size}
 use Rattle.stations.specs.Words.{members}
 use Rattle.stations.specs.declared.StationSet.{StationSet}
@@ -9,7 +9,6 @@ use Rattle.mesh.specs.Table.{linked, Fits}
 use Rattle.mesh.specs.Routes.{Routes, Most, Parts, Least}
 use Rattle.linkage.specs.Pair.{other_links}
 use Rattle.flow.specs.declared.Cut.{Cut}
-use Rattle.flow.specs.declared.Cut.TheVariants.{Many, Few}
 
 -- what is asked: two stations of the set, with a row for each station of it, in the table of a mesh
 pub record Asked (t : List ℕ) (set : StationSet) (a b : ℕ) : Type 0 where
@@ -29,6 +28,6 @@ pub record Counted (t : List ℕ) (set : StationSet) (a b limit c : ℕ) (s : St
   pub exact : size 256 (members s) ≡ c
 
 -- as many routes as the limit, or how many there are
-abbrev pub BetweenOf : List ℕ → StationSet → ℕ → ℕ → ℕ → Cut → Type 0
-BetweenOf t set a b limit Many = Routes (other_links (linked t) a b) (members set) a b limit
-BetweenOf t set a b limit (Few c s) = Counted t set a b limit c s
+abbrev pub BetweenOf : List ℕ → StationSet → ℕ → ℕ → ℕ → Option Cut → Type 0
+BetweenOf t set a b limit None = Routes (other_links (linked t) a b) (members set) a b limit
+BetweenOf t set a b limit (Some r) = Counted t set a b limit r.chains r.loss

@@ -4,17 +4,13 @@
 --   Held t .. c          `hold` and `first` hold a linkage of c chains
 --   Searched N .. r      what a search came to: an end (Came), or none (Stuck)
 --   Start, Turned        what the way back along a search starts from and comes to, whatever the net
-use Rattle.std.specs.Prelude.{true, false, cond, List, ◌≡◌, ℕ, suc, ◌+◌, ◌<◌, length, get_or}
+use Rattle.std.specs.Prelude.{cond, List, Option, Some, None, Result, Ok, Err, ◌≡◌, ℕ, suc, ◌<◌, length, get_or}
 use Rattle.stations.specs.Sets.{Set, ◌is_in◌, ◌not_in◌, ◌part_of◌, ◌without◌, ◌cut◌, ◌joined◌, only, size}
-use Rattle.stations.specs.Words.{bit, members}
+use Rattle.stations.specs.Words.{members}
 use Rattle.stations.specs.declared.StationSet.{StationSet}
-use Rattle.stations.specs.declared.Found.{Found}
-use Rattle.stations.specs.declared.Found.TheVariants.{At, Nothing}
 use Rattle.linkage.specs.Net.{Net}
 use Rattle.linkage.specs.Linkage.{Linkage, Search, Closed}
 use Rattle.flow.specs.Net.{net_of}
-use Rattle.flow.specs.declared.steps.Sought.{Sought}
-use Rattle.flow.specs.declared.steps.Sought.TheVariants.{Way, Shut}
 
 abbrev pub at : List ℕ → ℕ → ℕ
 at l w = get_or l w 0
@@ -24,15 +20,9 @@ abbrev pub read : Set → List ℕ → ℕ → ℕ
 read s l w = cond (s w) 256 (at l w)
 
 -- a station of the set, or none
-abbrev pub SomeOf : Set → Found → Type 0
-SomeOf s (At j) = (j < 256) × (j is_in s)
-SomeOf s Nothing = (x : ℕ) → x not_in s
-
--- g is stored at the stations base + j, for each set bit j of w
-pub record MarkedIn (from : List ℕ) (base w g : ℕ) (from' : List ℕ) : Type 0 where
-  pub whole : length from' ≡ 256
-  pub new : (j : ℕ) → j < 64 → bit w j ≡ true → at from' (base + j) ≡ g
-  pub old : (i : ℕ) → ((j : ℕ) → j < 64 → i ≡ base + j → bit w j ≡ false) → at from' i ≡ at from i
+abbrev pub SomeOf : Set → Option ℕ → Type 0
+SomeOf s (Some j) = (j < 256) × (j is_in s)
+SomeOf s None = (x : ℕ) → x not_in s
 
 -- g is stored at the stations of s
 pub record Marked (from : List ℕ) (s : Set) (g : ℕ) (from' : List ℕ) : Type 0 where
@@ -76,11 +66,11 @@ pub record Stuck (N : Net) (first : Set) (hold : List ℕ) (s : StationSet) : Ty
   pub closed : Closed N (read first hold) into out
   pub loss : (w : ℕ) → members s w ≡ (into without out) w
 
-abbrev pub Told : Net → StationSet → Set → List ℕ → List ℕ → Sought → Type 0
-Told N starts first hold from (Way h) = Came N starts first hold from h
-Told N starts first hold from (Shut s) = Stuck N first hold s
+abbrev pub Told : Net → StationSet → Set → List ℕ → List ℕ → Result ℕ StationSet → Type 0
+Told N starts first hold from (Ok h) = Came N starts first hold from h
+Told N starts first hold from (Err s) = Stuck N first hold s
 
-pub record Searched (N : Net) (starts : StationSet) (first : Set) (hold from : List ℕ) (r : Sought) : Type 0 where
+pub record Searched (N : Net) (starts : StationSet) (first : Set) (hold from : List ℕ) (r : Result ℕ StationSet) : Type 0 where
   pub whole : length from ≡ 256
   pub told : Told N starts first hold from r
 

@@ -8,54 +8,52 @@ ghost use Rattle.flow.specs.Net.{net_of, Flow};
 ghost use Rattle.flow.specs.Pair.{Asked, BetweenOf};
 
 use stations::StationSet;
-use steps::Sought;
 
 mod steps;
 
-// What `flow` answers: as many chains as asked for, or how many there are, with as many stations whose loss leaves no chain.
+// Fewer chains than asked for: how many there are, and as many stations whose loss leaves no chain.
 #[derive(Clone, Copy)]
-pub enum Cut {
-    Many,
-    Few(usize, StationSet),
+pub struct Cut {
+    pub chains: usize,
+    pub loss: StationSet,
 }
 
 // Chains of links of the table inside `inner`, from a start to an end, that share no station. A station that is both is a chain by itself.
+// None says that there are as many as asked for.
 pub fn flow(
     table: &[u64],
     inner: StationSet,
     starts: StationSet,
     ends: StationSet,
     limit: usize,
-) -> Cut
+) -> Option<Cut>
     requires { Fits table.now (members inner) }
     ensures { Flow (net_of table.now inner starts ends) limit result }
 {
     let mut first = inner.cut(starts).cut(ends);
-    let mut c = first.size();
-    if limit <= c {
-        return Cut::Many;
+    let alone = first.size();
+    if limit <= alone {
+        return None;
     }
     let mut hold: [u8; 256] = [0; 256];
     let mut from: [u8; 256] = [0; 256];
     steps::idle(&mut hold);
-    while c < limit {
-        let s = steps::search(table, inner, starts, ends, first, &hold, &mut from);
-        match s {
-            Sought::Way(h) => {
-                let g = steps::turn(&mut hold, &from, starts, h);
-                first = first.with(g);
-                c += 1;
+    for chains in alone..limit {
+        match steps::search(table, inner, starts, ends, first, &hold, &mut from) {
+            Ok(last) => {
+                let start = steps::turn(&mut hold, &from, starts, last);
+                first = first.with(start);
             }
-            Sought::Shut(loss) => {
-                return Cut::Few(c, loss);
+            Err(loss) => {
+                return Some(Cut { chains, loss });
             }
         }
     }
-    Cut::Many
+    None
 }
 
 // Routes between two stations of a set: chains that share no station but these two. Their own link is left out.
-pub fn between(table: &[u64], set: StationSet, a: usize, b: usize, limit: usize) -> Cut
+pub fn between(table: &[u64], set: StationSet, a: usize, b: usize, limit: usize) -> Option<Cut>
     requires { Asked table.now set a b }
     ensures { BetweenOf table.now set a b limit result }
 {

@@ -1,12 +1,17 @@
--- Bytes are added to a page one after the other: nothing, one byte, and two things in a row.
-use mathlib.Core.List.{List, [], ◌∷◌, ◌++◌, append_assoc, append-nil}
+-- Bytes are added to a page one after the other: nothing, a text, and two things in a row.
+use mathlib.Core.List.{List, [], ◌++◌, append_assoc, append-nil}
 use mathlib.Core.Path.{◌≡◌, refl, sym, ◌∙◌, ap, subst}
-use Prim.Native.Nat.{ℕ, suc, ◌+◌, ◌-◌, ◌<◌, ◌≤◌}
+use Prim.Native.Nat.{ℕ, ◌+◌, ◌-◌, ◌≤◌}
 use native.Mathlib.Nat.{add-sub_of_le}
 use native.Mathlib.Omega.{arith}
-use lib.ListN.{length, get_or, set, take, drop, length-append, length-set}
-use lib.Seq.{take-suc, take-suc-set, drop-set-lt, drop-drop, take-length}
+use lib.ListN.{length, take, drop, length-append}
+use lib.Seq.{drop-drop}
+use borrow.Rule.Slice.PartMut.{put_mid}
+use borrow.Author.Rules.{rules}
+use Rattle.std.proofs.lemmas.Slice.{take-put_mid, drop-put_mid, overwrites}
 use Rattle.lines.specs.Lines.{Added}
+use Rattle.lines.specs.Sheets.{Put}
+use Rattle.lines.specs.declared.Sheet.{Sheet}
 
 pub added_none : (at : ℕ) (bs : List ℕ) → Added at at [] bs bs
 added_none at bs = record { next = omega arith; front = sym (append-nil (take at bs)); beyond = refl; long = refl }
@@ -23,25 +28,17 @@ added_then at p r a b bs bs₁ bs₂ x y = record {
   long = y.long ∙ x.long;
 }
 
-pub added_byte : (at : ℕ) (v : ℕ) (bs : List ℕ) → at < length bs → Added at (suc at) (v ∷ []) bs (set bs at v)
-added_byte at v bs h = record {
-  next = omega arith;
-  front = take-suc-set bs at v h;
-  beyond = drop-set-lt (suc at) bs at v (omega arith);
-  long = length-set bs at v;
+-- a text is copied whole
+pub copied : (at k : ℕ) (new new' bs : List ℕ) → new' ≡ new → k ≡ length new → at + length new ≤ length bs → Added at (at + length new) new bs (put_mid at k bs new')
+copied at k new new' bs e f room = rw e record {
+  next = refl;
+  front = take-put_mid at k bs new (at + length new) refl (omega arith);
+  beyond = drop-put_mid at k bs new (at + length new) (omega arith) (omega arith) (omega arith);
+  long = search (rules, overwrites);
 }
 
--- a text is copied byte by byte
-pub copied_more : (at i : ℕ) (new bs bs' : List ℕ) → i < length new → at + length new ≤ length bs → Added at (at + i) (take i new) bs bs'
-    → Added at (at + suc i) (take (suc i) new) bs (set bs' (at + i) (get_or new i 0))
-copied_more at i new bs bs' h room x =
-    subst (λ (r : ℕ). Added at r (take (suc i) new) bs (set bs' (at + i) (get_or new i 0))) (omega arith)
-    (subst (λ (w : List ℕ). Added at (suc (at + i)) w bs (set bs' (at + i) (get_or new i 0))) (sym (take-suc new i 0 h))
-    (added_then at (at + i) (suc (at + i)) (take i new) (get_or new i 0 ∷ []) bs bs' (set bs' (at + i) (get_or new i 0)) x (added_byte (at + i) (get_or new i 0) bs' (omega (arith, x.long)))))
+pub put_none : (p : Sheet) → Put [] p p
+put_none p = record { same = refl; added = added_none p.at p.bytes.now }
 
-pub copied_none : (at : ℕ) (new bs : List ℕ) → Added at (at + 0) (take 0 new) bs bs
-copied_none at new bs = subst (λ (r : ℕ). Added at r [] bs bs) (omega arith) (added_none at bs)
-
-pub copied_all : (at i : ℕ) (new bs bs' : List ℕ) → i ≡ length new → Added at (at + i) (take i new) bs bs' → Added at (at + length new) new bs bs'
-copied_all at i new bs bs' e x =
-    subst (λ (w : List ℕ). Added at (at + length new) w bs bs') (take-length new) (subst (λ (j : ℕ). Added at (at + j) (take j new) bs bs') e x)
+pub put_then : {a b : List ℕ} {p q r : Sheet} → Put a p q → Put b q r → Put (a ++ b) p r
+put_then x y = record { same = y.same ∙ x.same; added = added_then _ _ _ _ _ _ _ _ x.added y.added }

@@ -10,17 +10,12 @@ use lib.ListN.{length, get_or}
 use Rattle.stations.specs.Sets.{Set, ◌is_in◌, ◌not_in◌, ◌without◌, only, size}
 use Rattle.stations.specs.Answers.{Least}
 use Rattle.stations.proofs.Bools.{never}
-use Rattle.stations.proofs.Counting.{size-add, size_ext, size_minus_one}
+use Rattle.stations.proofs.Counting.{size-add}
 use Rattle.stations.proofs.Members.{less_same, lost_without, off_without, is_only}
-use Rattle.lines.specs.Lines.{labelled, serial_if, serials_of, Added}
-use Rattle.lines.proofs.Decimal.{decimal_length}
-use Rattle.lines.proofs.Adding.{added_none, added_then}
-
--- one station
-pub one_serial : (at r x y : ℕ) (page page' : List ℕ) → x ≡ y → x < 4294967296 → Added at r (labelled " " x) page page'
-    → Added at r (labelled " " y) page page' × (r ≤ at + 11)
-one_serial at r x y page page' q h a =
-    (subst (λ (z : ℕ). Added at r (labelled " " z) page page') q a, omega (arith, a.next, decimal_length 19 x 9 (omega arith)))
+use Rattle.lines.specs.Lines.{labelled, serial_if, serials_of}
+use Rattle.lines.specs.Sheets.{Room, Put}
+use Rattle.lines.specs.declared.Sheet.{Sheet}
+use Rattle.lines.proofs.Adding.{put_none, put_then}
 
 -- stations that the set has not add no serial
 serials_skip : (serials : List ℕ) (s : Set) (j k : ℕ) → ((x : ℕ) → j ≤ x → x < j + k → x not_in s) → serials_of (j + k) serials s ≡ serials_of j serials s
@@ -44,72 +39,68 @@ size_next : (j : ℕ) (s : Set) → j is_in s → size (suc j) s ≡ suc (size j
 unfolding size
 size_next j s h = rw h (omega arith)
 
--- the serials of the stations below `done` stand from `at` on, the next goes to `place`, and `rest` has the set's other stations
-pub record Spelled (at : ℕ) (serials : List ℕ) (s : Set) (page : List ℕ) (place : ℕ) (page' : List ℕ) (rest : Set) : Type 0 where
+-- the serials of the stations below `done` stand on the page, and `rest` has the set's other stations
+pub record Spelled (serials : List ℕ) (s : Set) (p q : Sheet) (rest : Set) : Type 0 where
   pub done : ℕ
   pub within : done ≤ length serials
-  pub added : Added at place (serials_of done serials s) page page'
-  pub room : place ≤ at + size done s * 11
+  pub put : Put (serials_of done serials s) p q
+  pub end : q.at ≤ p.at + size done s * 11
   pub gone : (x : ℕ) → x < done → x not_in rest
   pub left : (x : ℕ) → done ≤ x → rest x ≡ s x
 
-pub spelled_none : (at : ℕ) (serials : List ℕ) (s : Set) (page : List ℕ) → Spelled at serials s page at page s
+pub spelled_none : (serials : List ℕ) (s : Set) (p : Sheet) → Spelled serials s p p s
 unfolding serials_of size
-spelled_none at serials s page = record {
+spelled_none serials s p = record {
   done = 0;
   within = omega arith;
-  added = added_none at page;
-  room = omega arith;
+  put = put_none p;
+  end = omega arith;
   gone = λ x l. absurd (omega arith);
   left = λ x l. refl;
 }
 
-module _ (at : ℕ) (serials : List ℕ) (s : Set) (page : List ℕ) (place : ℕ) (page' : List ℕ) (rest : Set) (p : Spelled at serials s page place page' rest) (few : length serials ≤ 256) where
+module _ {serials : List ℕ} {s rest : Set} {p q : Sheet} (S : Spelled serials s p q rest) (few : length serials ≤ 256) where
   -- none of the rest has a serial
-  pub spelled_all : ((x : ℕ) → x < length serials → x not_in rest) → Added at place (serials_of (length serials) serials s) page page' × (place ≤ at + size 256 s * 11)
-  spelled_all h = (
-    subst (λ (w : List ℕ). Added at place w page page') (sym (serials_past serials s p.done (length serials) p.within (λ x l g. sym (p.left x l) ∙ h x g))) p.added,
-    omega (arith, p.room, size_up p.done 256 s (omega (arith, p.within))),
-  )
+  pub all_put : ((x : ℕ) → x < length serials → x not_in rest) → Put (serials_of (length serials) serials s) p q
+  all_put h = rw (serials_past serials s S.done (length serials) S.within (λ x l g. sym (S.left x l) ∙ h x g)) S.put
+
+  pub all_end : q.at ≤ p.at + size 256 s * 11
+  all_end = omega (arith, S.end, size_up S.done 256 s (omega (arith, S.within)))
 
   -- j is the smallest of the rest
-  module _ (j : ℕ) (l : Least rest j) (small : j < length serials) where
-    reached : p.done ≤ j
-    reached = go (dec_lt j p.done)
+  module _ {j : ℕ} (l : Least rest j) (small : j < length serials) where
+    reached : S.done ≤ j
+    reached = go (dec_lt j S.done)
       where
-        go : Dec (j < p.done) → p.done ≤ j
-        go (yes g) = never (rest j) l.mine (p.gone j g)
+        go : Dec (j < S.done) → S.done ≤ j
+        go (yes g) = never (rest j) l.mine (S.gone j g)
         go (no g) = omega arith
 
     mine : j is_in s
-    mine = sym (p.left j reached) ∙ l.mine
+    mine = sym (S.left j reached) ∙ l.mine
 
-    more : size p.done s + 1 ≤ size (suc j) s
-    more = omega (arith, size_up p.done j s reached, size_next j s mine)
+    more : size S.done s + 1 ≤ size (suc j) s
+    more = omega (arith, size_up S.done j s reached, size_next j s mine)
 
-    pub spelled_room : {words : ℕ} → at + size 256 s * 11 + 10 ≤ words → place + 21 ≤ words
-    spelled_room h = omega (arith, p.room, more, size_up (suc j) 256 s (omega arith))
+    pub spelled_room : Room (size 256 s * 11 + 10) p → Room 21 q
+    spelled_room h = omega (arith, S.end, S.put.added.long, more, size_up (suc j) 256 s (omega arith))
 
-    pub spelled_more : (next : ℕ) (page'' : List ℕ) (rest' : Set) → Added place next (labelled " " (get_or serials j 0)) page' page'' → next ≤ place + 11
-        → ((x : ℕ) → rest' x ≡ (rest without only j) x) → Spelled at serials s page next page'' rest'
+    pub spelled_more : {q' : Sheet} {rest' : Set} → Put (labelled " " (get_or serials j 0)) q q' → q'.at ≤ q.at + 11
+        → ((x : ℕ) → rest' x ≡ (rest without only j) x) → Spelled serials s p q' rest'
     unfolding serials_of
-    spelled_more next page'' rest' a h e = record {
+    spelled_more {q'} {rest'} a h e = record {
       done = suc j;
       within = omega arith;
-      added =
-          subst (λ (w : List ℕ). Added at next w page page'')
-          (ap (λ (w : List ℕ). w ++ labelled " " (get_or serials j 0)) (sym (serials_past serials s p.done j reached (λ x g i. sym (p.left x g) ∙ l.below x i)))
+      put =
+          subst (λ (w : List ℕ). Put w p q')
+          (ap (λ (w : List ℕ). w ++ labelled " " (get_or serials j 0)) (sym (serials_past serials s S.done j reached (λ x g i. sym (S.left x g) ∙ l.below x i)))
           ∙ ap (λ (b : Bool). serials_of j serials s ++ serial_if b (get_or serials j 0)) (sym mine))
-          (added_then at place next (serials_of p.done serials s) (labelled " " (get_or serials j 0)) page page' page'' p.added a);
-      room = omega (arith, p.room, h, more);
+          (put_then S.put a);
+      end = omega (arith, S.end, h, more);
       gone = λ x g. e x ∙ out x g (dec_lt x j);
-      left = λ x g. e x ∙ less_same rest j x (λ i. omega arith) ∙ p.left x (omega (arith, reached));
+      left = λ x g. e x ∙ less_same rest j x (λ i. omega arith) ∙ S.left x (omega (arith, reached));
     }
       where
         out : (x : ℕ) → x < suc j → Dec (x < j) → x not_in rest without only j
         out x g (yes i) = off_without rest (only j) x (l.below x i)
         out x g (no i) = let q : j ≡ x = omega arith in subst (λ (y : ℕ). y not_in rest without only j) q (lost_without rest (only j) j (is_only j))
-
--- the rest less one of its stations
-pub fewer : (s s' : Set) (j : ℕ) → Least s j → ((x : ℕ) → s' x ≡ (s without only j) x) → size 256 s' < size 256 s
-fewer s s' j l e = omega (arith, size_minus_one 256 s j l.small l.mine, size_ext 256 s' (s without only j) (λ x i. e x))

@@ -1,11 +1,14 @@
 -- The rows of a list: a store changes one row, and what is kept of the words past a row is kept of the rows.
 use mathlib.Core.List.{List, [], ◌∷◌}
 use mathlib.Core.Path.{◌≡◌, refl, sym, ap, ◌∙◌, subst₂}
-use Prim.Native.Nat.{ℕ, ◌+◌, ◌*◌, ◌<◌, ◌≤◌}
-use native.Mathlib.Decide.{ℕ_discrete}
+use Prim.Native.Nat.{ℕ, ◌+◌, ◌-◌, ◌*◌, ◌<◌, ◌≤◌}
 use native.Mathlib.Omega.{arith}
-use lib.ListN.{length, get_or, set, length-set}
-use lib.Seq.{get_or-set_same, get_or-set_other}
+use borrow.Author.Rules.{rules}
+use borrow.Rule.Slice.PartMut.{put_mid}
+use Rattle.std.proofs.Math.ListN.{replicate}
+use Rattle.std.proofs.lemmas.List.{places}
+use lib.ListN.{length, get_or, set, take, drop}
+use lib.Seq.{get_or-set_other}
 use Rattle.stations.specs.Sets.{Set}
 use Rattle.stations.specs.Words.{has, members, put_row}
 use Rattle.stations.specs.declared.StationSet.{StationSet}
@@ -48,33 +51,30 @@ put_stored l r a b c d h = record {
 }
 
 -- the loop of `clear`: the words from a row's start up to p are zero
-pub record Clearing (l : List ℕ) (a p : ℕ) (l' : List ℕ) : Type 0 where
-  pub zero : (q : ℕ) → a * 4 ≤ q → q < p → get_or l' q 0 ≡ 0
-  pub other : (q : ℕ) → (q < a * 4 → ⊥) → p ≤ q → get_or l' q 0 ≡ get_or l q 0
-  pub before : (q : ℕ) → q < a * 4 → get_or l' q 0 ≡ get_or l q 0
-  pub long : length l' ≡ length l
+-- a part of the list filled with zeros
+module _ (l ys : List ℕ) (a k : ℕ) (room : a + k ≤ length l) (zeros : ys ≡ replicate k 0) where
+  filled_in : (q : ℕ) → a ≤ q → q < a + k → get_or (put_mid a k l ys) q 0 ≡ 0
+  filled_in q h m = rw zeros (search (rules, places))
 
-pub clear_none : (l : List ℕ) (a : ℕ) → Clearing l a (a * 4) l
-clear_none l a = record { zero = λ q h m. absurd (omega arith); other = λ q n h. refl; before = λ q h. refl; long = refl }
+  filled_before : (q : ℕ) → q < a → get_or (put_mid a k l ys) q 0 ≡ get_or l q 0
+  filled_before q h = rw zeros (search (rules, places))
 
-pub clear_one : {l : List ℕ} {a p : ℕ} {l' : List ℕ} → Clearing l a p l' → a * 4 ≤ p → p < length l → Clearing l a (p + 1) (set l' p 0)
-clear_one {l = l} {a = a} {p = p} {l' = l'} s h m = record {
-  zero = λ q x y. go q x y (ℕ_discrete q p);
-  other = λ q n x. get_or-set_other l' p q 0 0 (λ e. omega arith) ∙ s.other q n (omega arith);
-  before = λ q x. get_or-set_other l' p q 0 0 (λ e. omega arith) ∙ s.before q x;
-  long = length-set l' p 0 ∙ s.long;
-}
-  where
-    go : (q : ℕ) → a * 4 ≤ q → q < p + 1 → Dec (q ≡ p) → get_or (set l' p 0) q 0 ≡ 0
-    go q x y (yes e) = rw e (get_or-set_same l' p 0 0 (omega (arith, s.long)))
-    go q x y (no d) = get_or-set_other l' p q 0 0 d ∙ s.zero q x (omega arith)
+  filled_past : (q : ℕ) → a + k ≤ q → get_or (put_mid a k l ys) q 0 ≡ get_or l q 0
+  filled_past q h = rw zeros (search (rules, places))
 
-pub clear_all : {l : List ℕ} {a p : ℕ} {l' : List ℕ} (e : ℕ) → Clearing l a p l' → a ≤ e → p ≡ e * 4 → Cleared l a e l'
-clear_all {l = l} {a = a} {p = p} {l' = l'} e s h m = record {
-  zero = λ q x y. s.zero q x (omega arith);
-  before = s.before;
-  kept = record { long = s.long; past = λ q x. s.other q (λ y. omega arith) (omega arith) };
-}
+  filled_long : length (put_mid a k l ys) ≡ length l
+  filled_long = rw zeros (search (rules, places))
+
+pub cleared : (l ys : List ℕ) (a e : ℕ) → a ≤ e → e * 4 ≤ length l → ys ≡ replicate (length (take (e * 4 - a * 4) (drop (a * 4) l))) 0
+    → Cleared l a e (put_mid (a * 4) (e * 4 - a * 4) l ys)
+cleared l ys a e h m zeros =
+    let part : length (take (e * 4 - a * 4) (drop (a * 4) l)) ≡ e * 4 - a * 4 = search (rules, places) in
+    let z : ys ≡ replicate (e * 4 - a * 4) 0 = zeros ∙ ap (λ (n : ℕ). replicate n 0) part in
+    record {
+      zero = λ q x y. filled_in l ys (a * 4) (e * 4 - a * 4) (omega arith) z q x (omega arith);
+      before = λ q x. filled_before l ys (a * 4) (e * 4 - a * 4) (omega arith) z q x;
+      kept = record { long = filled_long l ys (a * 4) (e * 4 - a * 4) (omega arith) z; past = λ q x. filled_past l ys (a * 4) (e * 4 - a * 4) (omega arith) z q (omega arith) };
+    }
 
 -- the words of a station set put into row r
 pub put_set : {l l' : List ℕ} {r : ℕ} {A : Set} (s : StationSet) → members s ≡ A → r * 4 + 4 ≤ length l → l' ≡ put_row l r s.a s.b s.c s.d → Stored l r A l'

@@ -4,7 +4,7 @@ ghost use Rattle.mesh.specs.Mesh.{Mesh};
 ghost use Rattle.mesh.specs.Table.{linked, Fits};
 ghost use Rattle.listing.specs.Steps.{Pruned, Dividing, Divided};
 
-use stations::{Found, StationSet};
+use stations::StationSet;
 
 // Takes out of p each station with fewer than k links to what is left of it. It goes by rounds: a round looks at each station of todo once, and
 // the links of those it takes out are what the next one looks at.
@@ -14,27 +14,18 @@ pub(crate) fn prune(table: &[u64], p: StationSet, k: usize) -> StationSet
 {
     let mut left = p;
     let mut todo = p;
-    let mut again = StationSet::empty();
-    loop {
-        let f = todo.first();
-        match f {
-            Found::At(v) => {
-                let links = left.cut(StationSet::of_row(table, v));
-                todo = todo.without(v);
-                if links.size() < k {
-                    left = left.without(v);
-                    again = again.join(links);
-                }
-            }
-            Found::Nothing => {
-                todo = again.cut(left);
-                if todo.is_empty() {
-                    return left;
-                }
-                again = StationSet::empty();
+    while !todo.is_empty() {
+        let mut again = StationSet::empty();
+        for v in todo {
+            let links = left.cut(StationSet::of_row(table, v));
+            if links.size() < k {
+                left = left.without(v);
+                again = again.join(links);
             }
         }
+        todo = again.cut(left);
     }
+    left
 }
 
 // Puts the islands that the loss s leaves of p, each joined with s, at rows a, a + 1, .. of the list, but for those of k stations or fewer. It
@@ -52,21 +43,14 @@ pub(crate) fn divide(
 {
     let mut rest = p.minus(s);
     let mut m = 0;
-    loop {
-        let f = rest.first();
-        match f {
-            Found::At(v) => {
-                let island = touch::island(table, rest, v);
-                let piece = island.join(s);
-                rest = rest.minus(island);
-                if k < piece.size() {
-                    piece.put_row(list, a + m);
-                    m += 1;
-                }
-            }
-            Found::Nothing => {
-                return m;
-            }
+    while let Some(v) = rest.first() {
+        let island = touch::island(table, rest, v);
+        let piece = island.join(s);
+        rest = rest.minus(island);
+        if k < piece.size() {
+            piece.put_row(list, a + m);
+            m += 1;
         }
     }
+    m
 }

@@ -20,10 +20,7 @@ pub(crate) fn clear(list: &mut [u64], from: usize, to: usize)
     requires { (from ≤ to) × (to * 4 ≤ length list.old) }
     ensures { Cleared list.old from to list.new }
 {
-    let end = to * 4;
-    for p in from * 4..end {
-        list[p] = 0;
-    }
+    list[from * 4..to * 4].fill(0);
 }
 
 // Puts row i in its place among the rows before it, which are in order.
@@ -32,20 +29,15 @@ fn insert(list: &mut [u64], i: usize)
     ensures { Sorted list.old (i + 1) list.new }
 {
     let s = StationSet::of_row(list, i);
-    let mut j = i;
-    loop {
-        if j == 0 {
-            s.put_row(list, j);
-            return;
-        }
-        let y = StationSet::of_row(list, j - 1);
+    for j in (0..i).rev() {
+        let y = StationSet::of_row(list, j);
         if y.before(s) {
-            s.put_row(list, j);
+            s.put_row(list, j + 1);
             return;
         }
-        y.put_row(list, j);
-        j -= 1;
+        y.put_row(list, j + 1);
     }
+    s.put_row(list, 0);
 }
 
 // Puts the first g rows in order.

@@ -5,7 +5,6 @@ ghost use Rattle.listing.specs.Rows.{Kept};
 ghost use Rattle.listing.specs.Steps.{State, Turned};
 
 use crate::{pieces, rows};
-use pairs::Settled;
 use stations::StationSet;
 
 // How far a search is: rows 0 to done - 1 are groups, rows done to all - 1 are unfinished pieces.
@@ -15,29 +14,30 @@ pub(crate) struct Stand {
     pub(crate) all: usize,
 }
 
-// Takes up the piece in row g, of c rows. It is dropped if it is too small, stays if it holds, and is divided by a loss otherwise: the last row takes
+// Takes up the first unfinished piece. It is dropped if it is too small, stays if it holds, and is divided by a loss otherwise: the last row takes
 // its place, and the parts stand at the end.
-fn turn(table: &[u64], k: usize, list: &mut [u64], g: usize, c: usize) -> Stand
-    requires { (g < c) × ((w : ℕ) × (D : Set) × State table.now k w D list.old g c) }
-    ensures { Turned table.now k list.old g c list.new result.done result.all }
+fn turn(table: &[u64], k: usize, list: &mut [u64], from: Stand) -> Stand
+    requires less { from.done < from.all }
+    requires state { (w : ℕ) × (D : Set) × State table.now k w D list.old from.done from.all }
+    ensures { Turned table.now k list.old from.done from.all list.new result.done result.all }
 {
+    let g = from.done;
     let p = pieces::prune(table, StationSet::of_row(list, g), k);
     if p.size() <= k {
-        let last = rows::fill(list, g, c);
+        let last = rows::fill(list, g, from.all);
         return Stand { done: g, all: last };
     }
-    let r = pairs::weak(table, p, k);
-    match r {
-        Settled::Firm => {
+    match pairs::weak(table, p, k) {
+        None => {
             p.put_row(list, g);
             Stand {
                 done: g + 1,
-                all: c,
+                all: from.all,
             }
         }
-        Settled::Pair(_, _, s) => {
-            let last = rows::fill(list, g, c);
-            let m = pieces::divide(table, p, s, k, list, last);
+        Some(pair) => {
+            let last = rows::fill(list, g, from.all);
+            let m = pieces::divide(table, p, pair.loss, k, list, last);
             Stand {
                 done: g,
                 all: last + m,
@@ -51,12 +51,9 @@ pub(crate) fn gather(table: &[u64], k: usize, list: &mut [u64]) -> usize
     requires { (w : ℕ) × (D : Set) × State table.now k w D list.old 0 1 }
     ensures { (w : ℕ) (D : Set) → State table.now k w D list.old 0 1 → State table.now k w D list.new result result × Kept w list.old list.new }
 {
-    let mut g = 0;
-    let mut c = 1;
-    while g < c {
-        let r = turn(table, k, list, g, c);
-        g = r.done;
-        c = r.all;
+    let mut stand = Stand { done: 0, all: 1 };
+    while stand.done < stand.all {
+        stand = turn(table, k, list, stand);
     }
-    g
+    stand.done
 }

@@ -5,15 +5,14 @@
 --                          a station of N: none parts p, or this one does, and these two stations
 --   WeakOf t p k           the same of all losses of fewer than k
 --   AroundOf t p j l       the same of the losses that have j and fewer than l others, and each of whose islands has a link to j
-use Rattle.std.specs.Prelude.{List, ◌⊎◌, ◌≡◌, ℕ, ◌+◌, ◌≤◌}
+use Rattle.std.specs.Prelude.{List, Option, Some, None, ◌⊎◌, ◌≡◌, ℕ, ◌+◌, ◌≤◌}
 use Rattle.stations.specs.Sets.{Set, ◌is_in◌, ◌part_of◌, ◌without◌, ◌cut◌, size}
 use Rattle.stations.specs.Words.{members}
 use Rattle.stations.specs.declared.StationSet.{StationSet}
 use Rattle.mesh.specs.Mesh.{Links, Mesh, Whole}
 use Rattle.mesh.specs.Table.{linked, Fits}
 use Rattle.search.specs.Losses.{every, WeakPair, Safe, Sought, Around}
-use Rattle.pairs.specs.declared.Settled.{Settled}
-use Rattle.pairs.specs.declared.Settled.TheVariants.{Firm, Pair}
+use Rattle.pairs.specs.declared.WeakPair as declared
 
 pub record Piece (t : List ℕ) (p : StationSet) : Type 0 where
   pub fits : Fits t (members p)
@@ -38,14 +37,14 @@ pub record Fewest (L : Links) (p : Set) (j : ℕ) : Type 0 where
 abbrev pub out_of : StationSet → StationSet → Set
 out_of p q = members p without members q
 
-abbrev pub SettledOf : List ℕ → StationSet → StationSet → StationSet → ℕ → Settled → Type 0
-SettledOf t p q N l Firm = (S : Set) → Sought (linked t) 256 every (size 256 (out_of p q) + l) (members p) (members q) (members N) S → Whole (linked t) (members p without S)
-SettledOf t p q N l (Pair u v s) = WeakPair (linked t) 256 every (size 256 (out_of p q) + l) (members p) u v (members s) × (out_of p q part_of members s)
+abbrev pub SettledOf : List ℕ → StationSet → StationSet → StationSet → ℕ → Option declared.WeakPair → Type 0
+SettledOf t p q N l None = (S : Set) → Sought (linked t) 256 every (size 256 (out_of p q) + l) (members p) (members q) (members N) S → Whole (linked t) (members p without S)
+SettledOf t p q N l (Some r) = WeakPair (linked t) 256 every (size 256 (out_of p q) + l) (members p) r.one r.other (members r.loss) × (out_of p q part_of members r.loss)
 
-abbrev pub WeakOf : List ℕ → StationSet → ℕ → Settled → Type 0
-WeakOf t p k Firm = Safe (linked t) 256 every k (members p)
-WeakOf t p k (Pair u v s) = WeakPair (linked t) 256 every k (members p) u v (members s)
+abbrev pub WeakOf : List ℕ → StationSet → ℕ → Option declared.WeakPair → Type 0
+WeakOf t p k None = Safe (linked t) 256 every k (members p)
+WeakOf t p k (Some r) = WeakPair (linked t) 256 every k (members p) r.one r.other (members r.loss)
 
-abbrev pub AroundOf : List ℕ → StationSet → ℕ → ℕ → Settled → Type 0
-AroundOf t p j l Firm = (S : Set) → Around (linked t) 256 every (l + 1) (members p) j S → Whole (linked t) (members p without S)
-AroundOf t p j l (Pair u v s) = WeakPair (linked t) 256 every (l + 1) (members p) u v (members s) × (j is_in members s)
+abbrev pub AroundOf : List ℕ → StationSet → ℕ → ℕ → Option declared.WeakPair → Type 0
+AroundOf t p j l None = (S : Set) → Around (linked t) 256 every (l + 1) (members p) j S → Whole (linked t) (members p without S)
+AroundOf t p j l (Some r) = WeakPair (linked t) 256 every (l + 1) (members p) r.one r.other (members r.loss) × (j is_in members r.loss)

@@ -6,14 +6,14 @@ ghost use Rattle.stations.specs.Words.{members};
 ghost use Rattle.mesh.specs.Table.{linked, Fits};
 ghost use Rattle.pairs.specs.Piece.{Piece, Start, Fewest, SettledOf, WeakOf, AroundOf, FewerOf};
 
-use flow::Cut;
-use stations::{Found, StationSet};
+use stations::StationSet;
 
-// What the weak pair search says: no pair settles it, or this one does, and the loss parts the two.
+// A pair that settles the search: the loss parts the two.
 #[derive(Clone, Copy)]
-pub enum Settled {
-    Firm,
-    Pair(usize, usize, StationSet),
+pub struct WeakPair {
+    pub one: usize,
+    pub other: usize,
+    pub loss: StationSet,
 }
 
 // The set of the two that has fewer stations.
@@ -36,7 +36,7 @@ fn settle(
     among: StationSet,
     from: usize,
     most: usize,
-) -> Settled
+) -> Option<WeakPair>
     requires { Start table.now p within among from }
     ensures { SettledOf table.now p within among most result }
 {
@@ -44,47 +44,35 @@ fn settle(
     let mut sources = among;
     let mut u = from;
     let mut level = most;
-    let mut settled = Settled::Firm;
-    'pairs: while 0 < level {
+    'pairs: loop {
+        if level == 0 {
+            break None;
+        }
         let near = q.cut(StationSet::of_row(table, u));
         let mut known = near.with(u);
-        let mut left = sources.minus(known);
-        loop {
-            let f = left.first();
-            match f {
-                Found::At(v) => {
-                    let inner = q.without(u).without(v);
-                    let r = flow::flow(table, inner, StationSet::of_row(table, v), known, level);
-                    match r {
-                        Cut::Few(_, s) => {
-                            settled = Settled::Pair(u, v, s.join(p.minus(q)));
-                            break 'pairs;
-                        }
-                        Cut::Many => {
-                            known = known.with(v);
-                            left = left.without(v);
-                        }
-                    }
+        for v in sources.minus(known) {
+            let inner = q.without(u).without(v);
+            match flow::flow(table, inner, StationSet::of_row(table, v), known, level) {
+                Some(cut) => {
+                    break 'pairs Some(WeakPair {
+                        one: u,
+                        other: v,
+                        loss: cut.loss.join(p.minus(q)),
+                    });
                 }
-                Found::Nothing => {
-                    break;
+                None => {
+                    known = known.with(v);
                 }
             }
         }
         q = q.without(u);
         level -= 1;
         sources = fewer(near, sources.without(u));
-        let g = sources.first();
-        match g {
-            Found::At(w) => {
-                u = w;
-            }
-            Found::Nothing => {
-                break 'pairs;
-            }
-        }
+        let Some(next) = sources.first() else {
+            break None;
+        };
+        u = next;
     }
-    settled
 }
 
 // A station of p with the fewest links inside it. `from` is any station of p.
@@ -94,46 +82,31 @@ fn fewest(table: &[u64], p: StationSet, from: usize) -> usize
 {
     let mut at = from;
     let mut best = p.cut(StationSet::of_row(table, from)).size();
-    let mut rest = p.without(from);
-    loop {
-        let f = rest.first();
-        match f {
-            Found::At(v) => {
-                let links = p.cut(StationSet::of_row(table, v)).size();
-                if links < best {
-                    best = links;
-                    at = v;
-                }
-                rest = rest.without(v);
-            }
-            Found::Nothing => {
-                return at;
-            }
+    for v in p.without(from) {
+        let links = p.cut(StationSet::of_row(table, v)).size();
+        if links < best {
+            best = links;
+            at = v;
         }
     }
+    at
 }
 
 // A weak pair of p at k with a loss of fewer than k that parts it, or none.
-pub fn weak(table: &[u64], p: StationSet, k: usize) -> Settled
+pub fn weak(table: &[u64], p: StationSet, k: usize) -> Option<WeakPair>
     requires { Piece table.now p }
     ensures { WeakOf table.now p k result }
 {
-    let f = p.first();
-    match f {
-        Found::At(j) => settle(table, p, p, p, fewest(table, p, j), k),
-        Found::Nothing => Settled::Firm,
-    }
+    let j = p.first()?;
+    settle(table, p, p, p, fewest(table, p, j), k)
 }
 
 // The same among the losses that have j and at most `most` stations, and each of whose islands has a link to j.
-pub fn around(table: &[u64], p: StationSet, j: usize, most: usize) -> Settled
+pub fn around(table: &[u64], p: StationSet, j: usize, most: usize) -> Option<WeakPair>
     requires { Piece table.now p × (j is_in members p) }
     ensures { AroundOf table.now p j most result }
 {
     let links = p.cut(StationSet::of_row(table, j));
-    let f = links.first();
-    match f {
-        Found::At(u) => settle(table, p, p.without(j), links, u, most),
-        Found::Nothing => Settled::Firm,
-    }
+    let u = links.first()?;
+    settle(table, p, p.without(j), links, u, most)
 }

@@ -4,15 +4,14 @@
 use mathlib.Core.Bool.{Bool, true, false, ◌||◌}
 use mathlib.Core.Logic.{⊎_elim}
 use mathlib.Core.Path.{◌≡◌, refl, sym, ap, ◌∙◌, subst}
-use Prim.Native.Nat.{ℕ, ◌<◌}
+use Prim.Native.Nat.{ℕ, ◌<◌, ◌≤◌}
 use native.Mathlib.Omega.{arith}
-use Rattle.stations.specs.Sets.{Set, ◌is_in◌, ◌not_in◌, ◌part_of◌, only, ◌without◌, ◌cut◌, ◌joined◌, size}
-use Rattle.stations.specs.Answers.{Least}
-use Rattle.stations.proofs.Bools.{test, never, or_cases, or_left, or_right, or_off}
-use Rattle.stations.proofs.Members.{in_without, of_without, in_cut, of_cut, in_less, only_is, is_only}
-use Rattle.stations.proofs.Counting.{size-sub, size_minus_one}
+use Rattle.stations.specs.Sets.{Set, ◌is_in◌, ◌not_in◌, ◌part_of◌, only, ◌without◌, ◌cut◌, ◌joined◌, Below, size}
+use Rattle.stations.proofs.Bools.{test, never, not_so, or_cases, or_left, or_right, or_off}
+use Rattle.stations.proofs.Members.{in_without, of_without, in_cut, of_cut, only_is, is_only}
+use Rattle.stations.proofs.Counting.{full}
 use Rattle.mesh.specs.Mesh.{Links, Touch, here}
-use Rattle.mesh.proofs.Chains.{touch_start, touch_end, touch_link, closed_touch}
+use Rattle.mesh.proofs.Chains.{touch_end, touch_link, closed_touch}
 use Rattle.touch.specs.Reach.{Island, Spread}
 
 -- r is reached from a inside s, p is the front
@@ -38,10 +37,6 @@ grown_inside g x e = touch_end (g.sound x (g.waits x e))
 -- at the end
 pub grown_all : (L : Links) (s : Set) (a : ℕ) (r p : Set) → Grown L s a r p → ((x : ℕ) → x not_in p) → Island L s a r
 grown_all L s a r p g z = record { only = g.sound; all = λ x c. closed_touch r (λ x y i j l. g.closed x y i (z x) l j) c g.began }
-
--- nothing is in touch with a station outside the set
-pub island_none : (L : Links) (s : Set) (a : ℕ) (r : Set) → a not_in s → ((x : ℕ) → x not_in r) → Island L s a r
-island_none L s a r h z = record { only = λ x e. never (r x) e (z x); all = λ x c. never (s a) (touch_start c) h }
 
 -- ---- a wave: u is what the front is linked to, n what of it is in the set and not reached
 module _ (L : Links) (s : Set) (a : ℕ) (r p u n r' : Set) (g : Grown L s a r p) (f : Spread L p u)
@@ -69,21 +64,20 @@ module _ (L : Links) (s : Set) (a : ℕ) (r p u n r' : Set) (g : Grown L s a r p
   pub wave_more : Grown L s a r' n
   wave_more = record { sound = sound; began = lr a ∙ or_left (r a) (n a) g.began; waits = λ x e. lr x ∙ or_right (r x) (n x) e; closed = closed }
 
-  -- fewer stations of the set are left to reach
-  pub wave_fewer : (j : ℕ) → Least n j → size 256 (s without r') < size 256 (s without r)
-  wave_fewer j l =
-      let (i, js, jr) = new j l.mine in
-      omega (
-        arith,
-        size-sub 256 (s without r') ((s without r) without only j) part,
-        size_minus_one 256 (s without r) j l.small (in_without s r j js jr),
-      )
+  -- fewer stations of the set are left to reach, where the wave has some
+  pub wave_fewer : Below 256 s → (((x : ℕ) → x not_in n) → ⊥) → size 256 (s without r') < size 256 (s without r)
+  wave_fewer b some = omega (arith, whole)
     where
-      part : s without r' part_of (s without r) without only j
+      part : s without r' part_of s without r
       part x e =
           let (i, o) = of_without s r' x e in
-          let (q, v) = or_off (r x) (n x) (sym (lr x) ∙ o) in
-          in_less (s without r) j x (in_without s r x i q) (λ h. never (n x) (ap n h ∙ l.mine) v)
+          in_without s r x i (or_off (r x) (n x) (sym (lr x) ∙ o)).0
+
+      whole : size 256 (s without r) ≤ size 256 (s without r') → ⊥
+      whole q = some (λ x. not_so (n x) (λ e.
+          let (_, i, o) = new x e in
+          let (_, o') = of_without s r' x (full 256 (s without r') (s without r) (λ y h. b y (of_without s r y h).0) part q x (in_without s r x i o)) in
+          never (r' x) (lr x ∙ or_right (r x) (n x) e) o'))
 
 pub wave_end : (L : Links) (s : Set) (a : ℕ) (r p u n : Set) → Grown L s a r p → Spread L p u → ((x : ℕ) → n x ≡ ((u cut s) without r) x)
     → ((x : ℕ) → x not_in n) → Island L s a r

@@ -1,52 +1,43 @@
 -- The first of the smallest losses, over sets by value: how a station is tried (led_..), and the turns of the loop that takes stations (take_..).
 use mathlib.Core.List.{List}
+use Rattle.std.proofs.Common.{Some, None}
 use mathlib.Core.Path.{◌≡◌, refl, sym, ◌∙◌, subst, subst₂, fun_ext}
-use Prim.Native.Nat.{ℕ, ◌+◌, ◌-◌, ◌<◌, ◌≤◌}
+use Prim.Native.Nat.{ℕ, ◌+◌, ◌-◌, ◌<◌}
 use native.Mathlib.Omega.{arith}
 use Rattle.stations.specs.Sets.{Set, ◌is_in◌, ◌not_in◌, ◌part_of◌, only, none, ◌without◌, ◌joined◌, size}
 use Rattle.stations.specs.Words.{members}
 use Rattle.stations.specs.Answers.{Least}
 use Rattle.stations.specs.declared.StationSet.{StationSet}
 use Rattle.stations.proofs.Bools.{never, or_left, or_right}
-use Rattle.stations.proofs.Members.{in_without, of_without}
-use Rattle.mesh.specs.Mesh.{Whole, WeakSet}
+use Rattle.mesh.specs.Mesh.{Whole}
 use Rattle.mesh.specs.Table.{linked}
 use Rattle.search.specs.Losses.{every, WeakPair, Smallest, Safe, Around}
-use Rattle.search.proofs.FirstLoss.{Taking, fresh, taking_begin, taking_witness, taking_more, taking_end, taking_pass, taking_take}
+use Rattle.search.proofs.FirstLoss.{Taking, taking_begin, taking_witness, taking_more, taking_end, taking_pass, taking_take}
 use Rattle.search.proofs.SmallestLoss.{smallest_part, smallest_size, witness_next, none_around}
 use Rattle.search.proofs.Reply.{pair_loss, weak_set}
-use Rattle.pairs.specs.Piece.{Piece, AroundOf}
-use Rattle.verdicts.specs.Verdicts.{SmallestWeak, Trial, Led}
-use Rattle.pairs.specs.declared.Settled.TheVariants.{Firm, Pair}
+use Rattle.pairs.specs.Piece.{AroundOf}
+use Rattle.verdicts.specs.Verdicts.{SmallestWeak, FirstWeak, Trial, Led}
+use Rattle.pairs.specs.declared.WeakPair as declared
 use Rattle.pairs.proofs.Starts.{below}
 
 -- ---- a station j is tried
 module _ {t : List ℕ} {p taken witness : StationSet} {j left : ℕ} (h : Trial t p taken witness j left) where
-  pub led_has : j is_in members witness → Led t p taken j left witness
-  led_has g = record { leads = h.leads; none = λ o. never (members witness j) g o }
-
   part : members taken part_of members p
   part x g = h.leads.small.weak.loss.part x (h.leads.has x g)
 
   -- in p without the taken stations
   module _ (rest : StationSet) (lr : (x : ℕ) → members rest x ≡ (members p without members taken) x) where
-    pub led_piece : Piece t rest × (j is_in members rest)
-    led_piece = (
-      record { fits = λ x g. h.piece.fits x (of_without (members p) (members taken) x (sym (lr x) ∙ g)).0; mesh = h.piece.mesh },
-      lr j ∙ in_without (members p) (members taken) j h.mine h.fresh,
-    )
-
-    pub led_found : (u v : ℕ) (s r : StationSet) → AroundOf t rest j left (Pair u v s) → ((x : ℕ) → members r x ≡ (members s joined members taken) x) → Led t p taken j left r
-    led_found u v s r a e = record {
+    pub led_found : (w : declared.WeakPair) (r : StationSet) → AroundOf t rest j left (Some w) → ((x : ℕ) → members r x ≡ (members w.loss joined members taken) x) → Led t p taken j left r
+    led_found w r a e = record {
       leads = record {
         small = subst (Smallest (linked t) 256 every (size 256 (members taken) + left) (members p)) (sym (fun_ext e))
-            (witness_next left part (λ x g. refl) refl h.safe (members s) (pair_loss (subst (λ (z : Set). WeakPair (linked t) 256 every (left + 1) z u v (members s)) (fun_ext lr) a.0)));
-        has = λ x g. e x ∙ or_right (members s x) (members taken x) g;
+            (witness_next left part (λ x g. refl) refl h.safe (members w.loss) (pair_loss (subst (λ (z : Set). WeakPair (linked t) 256 every (left + 1) z w.one w.other (members w.loss)) (fun_ext lr) a.0)));
+        has = λ x g. e x ∙ or_right (members w.loss x) (members taken x) g;
       };
-      none = λ o. never (members r j) (e j ∙ or_left (members s j) (members taken j) a.1) o;
+      none = λ o. never (members r j) (e j ∙ or_left (members w.loss j) (members taken j) a.1) o;
     }
 
-    pub led_none : AroundOf t rest j left Firm → Led t p taken j left witness
+    pub led_none : AroundOf t rest j left None → Led t p taken j left witness
     led_none a = record {
       leads = h.leads;
       none = λ o s l g. none_around left part (λ x g. refl) refl h.safe j h.piece.mesh (below p) h.fresh
@@ -68,15 +59,6 @@ module _ (t : List ℕ) (p : StationSet) (c : ℕ) (taken witness rest : Station
 
   -- j is the next station
   module _ (j : ℕ) (l : Least (members rest) j) where
-    pub take_trial : Piece t p → Safe (linked t) 256 every c (members p) → Trial t p taken witness j left
-    take_trial piece safe = record {
-      piece = piece;
-      leads = record { small = subst (λ (i : ℕ). Small i (members witness)) (sym h.count) h.sought; has = h.has };
-      safe = subst (λ (i : ℕ). Safe (linked t) 256 every i (members p)) (sym h.count) safe;
-      mine = h.inside j l.mine;
-      fresh = fresh smallest_part smallest_size h j l.mine;
-    }
-
     module _ (w rest' : StationSet) (led : Led t p taken j left w) (lr : (x : ℕ) → members rest' x ≡ (members rest without only j) x) where
       sought : Small c (members w)
       sought = subst (λ (i : ℕ). Small i (members w)) h.count led.leads.small
@@ -92,9 +74,14 @@ module _ (t : List ℕ) (p : StationSet) (c : ℕ) (taken witness rest : Station
           (taking_pass smallest_part smallest_size (taking_witness smallest_part smallest_size h (members w) sought led.leads.has) j l.mine l.below
           (λ q m sub g. led.none o q (record { small = subst (λ (i : ℕ). Small i q) (sym h.count) m; has = sub }) g))
 
-  -- while some are to be taken, some are left to try
-  pub take_stuck : 0 < left → ((x : ℕ) → x not_in members rest) → ⊥
-  take_stuck pos z = let (x, i, g) = taking_more smallest_part smallest_size h (below p) pos in never (members rest x) g (z x)
+  -- once all were tried, none is to be taken
+  pub take_tried : ((x : ℕ) → x not_in members rest) → left ≡ 0
+  take_tried z = omega (arith, stuck)
+    where
+      stuck : 0 < left → ⊥
+      stuck pos = let (x, i, g) = taking_more smallest_part smallest_size h (below p) pos in never (members rest x) g (z x)
 
-  pub take_end : left ≤ 0 → Safe (linked t) 256 every c (members p) → (k : ℕ) → c < k → WeakSet (linked t) 256 k (members p) (members taken)
-  take_end z safe = let (w, first) = taking_end smallest_part smallest_size h (below p) (omega arith) in weak_set safe w first
+  pub take_end : left ≡ 0 → (s : StationSet) → SmallestWeak t p s → c ≡ size 256 (members s) → FirstWeak t p s taken
+  take_end z s a e k l =
+      let (w, first) = taking_end smallest_part smallest_size h (below p) z in
+      weak_set (subst (λ (i : ℕ). Safe (linked t) 256 every i (members p)) (sym e) a.safe) w first k (omega (arith, e, l))

@@ -4,7 +4,7 @@
 --   FirstWeak t p s r      r is the weak set of p, where s is one as small as any
 --   JudgedOf L k s         the verdict alone, with some loss
 --   reply                  the reply of the holding question, as mesh/specs has it
-use Rattle.std.specs.Prelude.{List, ℕ, ◌+◌, ◌<◌}
+use Rattle.std.specs.Prelude.{List, Option, Some, None, ℕ, ◌+◌, ◌<◌}
 use Rattle.stations.specs.Sets.{Set, ◌is_in◌, ◌not_in◌, ◌part_of◌, size}
 use Rattle.stations.specs.Words.{members}
 use Rattle.stations.specs.declared.StationSet.{StationSet}
@@ -12,16 +12,13 @@ use Rattle.mesh.specs.Mesh.{Links, WeakSet, Reply, HOLDS, FEW, WEAK, Answers}
 use Rattle.mesh.specs.Table.{linked}
 use Rattle.search.specs.Losses.{every, WeakPair, Smallest, Safe}
 use Rattle.pairs.specs.Piece.{Piece}
-use Rattle.pairs.specs.declared.Settled.{Settled}
-use Rattle.pairs.specs.declared.Settled.TheVariants.{Firm, Pair}
-use Rattle.verdicts.specs.declared.Answer.{Answer}
-use Rattle.verdicts.specs.declared.Answer.TheVariants.{Holds, Few, Weak}
-use Rattle.verdicts.specs.declared.Judged.{Judged}
-use Rattle.verdicts.specs.declared.Judged.TheVariants as judged
+use Rattle.pairs.specs.declared.WeakPair as declared
+use Rattle.verdicts.specs.declared.Verdict.{Verdict}
+use Rattle.verdicts.specs.declared.Verdict.TheVariants.{Holds, Few, Weak}
 
-abbrev pub SmallestOf : List ℕ → StationSet → ℕ → Settled → Type 0
-SmallestOf t p k Firm = Safe (linked t) 256 every k (members p)
-SmallestOf t p k (Pair u v s) = WeakPair (linked t) 256 every k (members p) u v (members s) × Safe (linked t) 256 every (size 256 (members s)) (members p)
+abbrev pub SmallestOf : List ℕ → StationSet → ℕ → Option declared.WeakPair → Type 0
+SmallestOf t p k None = Safe (linked t) 256 every k (members p)
+SmallestOf t p k (Some r) = WeakPair (linked t) 256 every k (members p) r.one r.other (members r.loss) × Safe (linked t) 256 every (size 256 (members r.loss)) (members p)
 
 pub record SmallestWeak (t : List ℕ) (p s : StationSet) : Type 0 where
   pub piece : Piece t p
@@ -49,13 +46,13 @@ pub record Led (t : List ℕ) (p taken : StationSet) (j left : ℕ) (r : Station
   pub leads : Leads t p taken left (members r)
   pub none : j not_in members r → (s : Set) → Leads t p taken left s → j is_in s → ⊥
 
-abbrev pub reply : Answer → Reply
+abbrev pub reply : Verdict StationSet → Reply
 reply Holds = HOLDS
 reply Few = FEW
 reply (Weak s) = WEAK (members s)
 
 -- the verdict alone, with some loss that parts the set
-abbrev pub JudgedOf : Links → ℕ → Set → Judged → Type 0
-JudgedOf L k s judged.Holds = Answers L 256 k s HOLDS
-JudgedOf L k s judged.Few = Answers L 256 k s FEW
-JudgedOf L k s (judged.Parted p) = (k < size 256 s) × Rattle.mesh.specs.Mesh.Weak L 256 k s (members p)
+abbrev pub JudgedOf : Links → ℕ → Set → Verdict StationSet → Type 0
+JudgedOf L k s Holds = Answers L 256 k s HOLDS
+JudgedOf L k s Few = Answers L 256 k s FEW
+JudgedOf L k s (Weak p) = (k < size 256 s) × Rattle.mesh.specs.Mesh.Weak L 256 k s (members p)

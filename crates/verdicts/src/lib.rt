@@ -7,43 +7,30 @@ ghost use Rattle.mesh.specs.Mesh.{Answers};
 ghost use Rattle.pairs.specs.Piece.{Piece};
 ghost use Rattle.verdicts.specs.Verdicts.{SmallestOf, SmallestWeak, FirstWeak, Trial, Led, reply, JudgedOf};
 
-use pairs::Settled;
-use stations::{Found, StationSet};
+use pairs::WeakPair;
+use stations::StationSet;
 
-// What the holding question replies.
+// What the holding question says of a set: it holds, it has k stations or fewer, or it is weak.
 #[derive(Clone, Copy)]
-pub enum Answer {
+pub enum Verdict<W> {
     Holds,
     Few,
-    Weak(StationSet),
-}
-
-// A verdict with some loss that parts the set, not the smallest and first: one search.
-#[derive(Clone, Copy)]
-pub enum Judged {
-    Holds,
-    Few,
-    Parted(StationSet),
+    Weak(W),
 }
 
 // A weak pair whose loss is as small as any: each loss found lowers the level asked for, and no loss has fewer than 0 stations.
-fn smallest(table: &[u64], p: StationSet, k: usize) -> Settled
+fn smallest(table: &[u64], p: StationSet, k: usize) -> Option<WeakPair>
     requires { Piece table.now p }
     ensures { SmallestOf table.now p k result }
 {
-    let mut best = Settled::Firm;
+    let mut best = None;
     let mut level = k;
     while 0 < level {
-        let r = pairs::weak(table, p, level);
-        match r {
-            Settled::Pair(u, v, s) => {
-                best = Settled::Pair(u, v, s);
-                level = s.size();
-            }
-            Settled::Firm => {
-                return best;
-            }
-        }
+        let Some(pair) = pairs::weak(table, p, level) else {
+            break;
+        };
+        best = Some(pair);
+        level = pair.loss.size();
     }
     best
 }
@@ -63,10 +50,9 @@ fn lead(
     if witness.has(j) {
         return witness;
     }
-    let r = pairs::around(table, p.minus(taken), j, left);
-    match r {
-        Settled::Pair(_, _, s) => s.join(taken),
-        Settled::Firm => witness,
+    match pairs::around(table, p.minus(taken), j, left) {
+        Some(pair) => pair.loss.join(taken),
+        None => witness,
     }
 }
 
@@ -78,54 +64,45 @@ fn first_weak(table: &[u64], p: StationSet, loss: StationSet) -> StationSet
 {
     let mut witness = loss;
     let mut taken = StationSet::empty();
-    let mut rest = p;
     let mut left = loss.size();
-    while 0 < left {
-        let f = rest.first();
-        match f {
-            Found::At(j) => {
-                witness = lead(table, p, taken, witness, j, left);
-                if witness.has(j) {
-                    taken = taken.with(j);
-                    left -= 1;
-                }
-                rest = rest.without(j);
-            }
-            Found::Nothing => {
-                return taken;
-            }
+    for j in p {
+        if left == 0 {
+            break;
+        }
+        witness = lead(table, p, taken, witness, j, left);
+        if witness.has(j) {
+            taken = taken.with(j);
+            left -= 1;
         }
     }
     taken
 }
 
 // Does the set hold at k? If not, it has k stations or fewer, or its weak set is the smallest and first.
-pub fn verdict(table: &[u64], p: StationSet, k: usize) -> Answer
+pub fn full_verdict(table: &[u64], p: StationSet, k: usize) -> Verdict<StationSet>
     requires { Piece table.now p }
     ensures { Answers (linked table.now) 256 k (members p) (reply result) }
 {
     if p.size() <= k {
-        return Answer::Few;
+        return Verdict::Few;
     }
-    let r = smallest(table, p, k);
-    match r {
-        Settled::Pair(_, _, s) => Answer::Weak(first_weak(table, p, s)),
-        Settled::Firm => Answer::Holds,
+    match smallest(table, p, k) {
+        Some(pair) => Verdict::Weak(first_weak(table, p, pair.loss)),
+        None => Verdict::Holds,
     }
 }
 
 // The verdict alone: does the set hold at k, has it k stations or fewer, or does some loss of fewer than k part it?
-pub fn judge(table: &[u64], p: StationSet, k: usize) -> Judged
+pub fn judge(table: &[u64], p: StationSet, k: usize) -> Verdict<StationSet>
     requires { Piece table.now p }
     ensures { JudgedOf (linked table.now) k (members p) result }
 {
     let size = p.size();
     if size <= k {
-        return Judged::Few;
+        return Verdict::Few;
     }
-    let r = pairs::weak(table, p, k);
-    match r {
-        Settled::Pair(_, _, s) => Judged::Parted(s),
-        Settled::Firm => Judged::Holds,
+    match pairs::weak(table, p, k) {
+        Some(pair) => Verdict::Weak(pair.loss),
+        None => Verdict::Holds,
     }
 }

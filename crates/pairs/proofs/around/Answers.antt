@@ -16,8 +16,8 @@ near c x = simp (c.cut-links.ensures, c.of_row.ensures)
 pub without-requires : goal.without-requires
 without-requires c = has_small _ _ refl c.requires.1
 
-pub returns-in-At : goal.returns-in-At
-returns-in-At c =
-    let k = (goal.at.returns-in-At c).After-cut-links in
+pub returns : goal.returns
+returns c =
+    let k = (goal.at.returns c).After-cut-links in
     around_of c.args.table.now c.args.p c.args.j c.requires.0 c.requires.1 c.without.result c.cut-links.result (near k) c.without.ensures
     c.args.most c.settle.result c.settle.ensures

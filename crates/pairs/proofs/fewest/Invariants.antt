@@ -1,4 +1,3 @@
-use Rattle.stations.specs.Sets.{size}
 use Rattle.stations.specs.Words.{members}
 use Rattle.mesh.specs.Table.{linked}
 use Rattle.pairs.proofs.Links.{Leading}
@@ -6,7 +5,4 @@ use Rattle.pairs.proofs.fewest.Given as goal
 
 -- `pairs::fewest` meets its contract.
 abbrev pub invariant-loop-v : goal.invariant-loop-v
-invariant-loop-v l = Leading (linked l.table) (members l.p) l.at l.best (members l.rest)
-
-abbrev pub decreases-loop-v : goal.decreases-loop-v
-decreases-loop-v l = size 256 (members l.rest)
+invariant-loop-v l = Leading (linked l.table) (members l.p) l.at l.best (members l.v-iterator.left)

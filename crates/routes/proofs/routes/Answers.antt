@@ -1,30 +1,23 @@
-use mathlib.Core.Path.{ap, subst}
-use Rattle.card.specs.Card.{FirstFailing, verdict}
-use Rattle.card.specs.declared.Tested.{Tested}
-use Rattle.routes.specs.Reply.{order}
-use Rattle.routes.proofs.Laws.{ordered, passed, replied, refused_reply}
-use Rattle.routes.proofs.routes.Goals.{After-then-tested}
+use mathlib.Core.List.{[], ◌∷◌}
+use Rattle.std.proofs.lemmas.Result.{err_from_is_err_and}
+use Rattle.card.specs.Card.{table_order, PAIR}
+use Rattle.card.proofs.Card.{first_stop, first_go, table_numbered}
+use Rattle.routes.proofs.Laws.{replied, refused_reply}
 use Rattle.routes.proofs.routes.Goals as goal
 
--- the number that the tests come to
-first : (c : After-then-tested) → let s = c.args in FirstFailing (order s.n s.table.now s.a s.b) (verdict c.then-tested.result)
-first c = let s = c.args in
-    ordered s.n s.table.now s.a s.b _ _ _ c.test_table-of_table.ensures c.test_pair-of_pair.ensures c.then-tested.ensures
+pub returns-in_err-mesh : goal.returns-in_err-mesh
+returns-in_err-mesh c = let a = c.args in
+    let p = err_from_is_err_and c.from_residual.result c.from_residual.ensures.1 in
+    rw (p.1, p.2) (refused_reply a.n a.table.now a.a a.b _ (first_stop (table_order a.n a.table.now) (PAIR a.n a.a a.b ∷ []) _ c.in_err-mesh.ensures.refused))
 
-pub ask-requires : goal.ask-requires
-ask-requires c =
-    let e = (goal.at.ask-requires c).After-then-tested in
-    let s = c.args in
-    passed s.n s.table.now s.a s.b _ (first e) (ap verdict c.in-Passed.is)
+pub returns-in_err-test_pair : goal.returns-in_err-test_pair
+returns-in_err-test_pair c = let a = c.args in
+    let p = err_from_is_err_and c.from_residual-in_err-test_pair.result c.from_residual-in_err-test_pair.ensures.1 in
+    rw (p.1, p.2) (refused_reply a.n a.table.now a.a a.b _
+    (first_go (table_order a.n a.table.now) (PAIR a.n a.a a.b ∷ []) _ (table_numbered a.n a.table.now) c.in_ok-mesh.ensures.refused c.in_err-test_pair.ensures))
 
-pub returns-in-Passed : goal.returns-in-Passed
-returns-in-Passed c =
-    let e = (goal.at.returns-in-Passed c).After-then-tested in
-    let s = c.args in
-    replied s.n s.table.now s.a s.b c.ask.result (verdict c.then-tested.result) (first e) (ap verdict c.in-Passed.is) c.ask.ensures
-
-pub returns-in-Failed : goal.returns-in-Failed
-returns-in-Failed c =
-    let e = (goal.at.returns-in-Failed c).After-then-tested in
-    let s = c.args in
-    refused_reply s.n s.table.now s.a s.b c.in-Failed.r (subst (λ (v : Tested). FirstFailing (order s.n s.table.now s.a s.b) (verdict v)) c.in-Failed.is (first e))
+pub returns : goal.returns
+returns c = let a = c.args in
+    replied a.n a.table.now a.a a.b c.ask.result
+    (first_go (table_order a.n a.table.now) (PAIR a.n a.a a.b ∷ []) _ (table_numbered a.n a.table.now) c.in_ok-mesh.ensures.refused c.in_ok-test_pair.ensures)
+    (rw (c.in_ok-mesh.ensures.same.0, c.in_ok-mesh.ensures.same.1) at c.ask.ensures)

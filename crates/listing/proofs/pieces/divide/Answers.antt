@@ -12,11 +12,11 @@ use Rattle.mesh.specs.Table.{linked}
 use Rattle.listing.specs.Steps.{Dividing}
 use Rattle.listing.proofs.Lists.{put_set}
 use Rattle.listing.proofs.Parting.{Split, Cutting, cut_none, cut_all, cut_less, cut_small, cut_room, cut_large}
-use Rattle.listing.proofs.pieces.divide.Goals.{After-size, At-loop-v, In-At, Then-k-size}
+use Rattle.listing.proofs.pieces.divide.Goals.{After-size, At-loop-v, In-Some, Then-k-size}
 use Rattle.listing.proofs.pieces.divide.Goals as goal
 
-least : (c : In-At) → Least (members c.loop-v.rest) c.in-At.v
-least c = subst (FirstOf (members c.loop-v.rest)) c.in-At.is c.first-f.ensures
+least : (c : In-Some) → Least (members c.loop-v.rest) c.in-Some.v
+least c = subst (FirstOf (members c.loop-v.rest)) c.in-Some.is c.first.ensures
 
 dividing : (c : At-loop-v) → let g = c.args in Dividing g.table.now g.k (members g.p) (members g.s) g.list.now g.a
 dividing c = c.requires
@@ -30,16 +30,16 @@ module _ (c : After-size) where
   abbrev piece : StationSet
   piece = c.join-piece.result
 
-  splits : Split (linked c.args.table.now) (members c.args.s) (members c.loop-v.rest) (members piece) (members c.minus-rest-in-At.result)
+  splits : Split (linked c.args.table.now) (members c.args.s) (members c.loop-v.rest) (members piece) (members c.minus-rest-in-Some.result)
   splits = record {
     below = λ x h. has_small (words c.loop-v.rest) x refl h;
-    at = c.in-At.v;
-    mine = (least (goal.at.After-size c).In-At).mine;
-    bound = (least (goal.at.After-size c).In-At).small;
+    at = c.in-Some.v;
+    mine = (least (goal.at.After-size c).In-Some).mine;
+    bound = (least (goal.at.After-size c).In-Some).small;
     island = members c.island-island.result;
     reached = c.island-island.ensures;
     part = fun_ext c.join-piece.ensures;
-    left = fun_ext c.minus-rest-in-At.ensures;
+    left = fun_ext c.minus-rest-in-Some.ensures;
   }
 
 -- a part of more than k stations, and the room for it
@@ -88,5 +88,5 @@ loop-v-preserved c =
     λ P d e.
     cut_small d (c.loop-v.invariant P d e) (splits z) (omega (arith, c.if-k-size.false, c.size.ensures))
 
-pub returns-in-Nothing : goal.returns-in-Nothing
-returns-in-Nothing c = cut_all (dividing (goal.at.returns-in-Nothing c).At-loop-v) (cutting (goal.at.returns-in-Nothing c).At-loop-v) (subst (FirstOf (members c.loop-v.rest)) c.in-Nothing.is c.first-f.ensures)
+pub returns : goal.returns
+returns c = cut_all (dividing (goal.at.returns c).At-loop-v) (cutting (goal.at.returns c).At-loop-v) (subst (FirstOf (members c.loop-v.rest)) c.in_default.is c.first.ensures)

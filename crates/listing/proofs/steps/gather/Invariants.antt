@@ -6,8 +6,8 @@ use Rattle.listing.specs.Steps.{State, above}
 use Rattle.listing.proofs.steps.gather.Given as goal
 
 -- `listing::steps::gather` meets its contract.
-abbrev pub invariant-loop-g : goal.invariant-loop-g
-invariant-loop-g l = (w : ℕ) (D : Set) → State l.table l.k w D l.initial.list 0 1 → State l.table l.k w D l.list l.g l.c × Kept w l.initial.list l.list
+abbrev pub invariant-loop-stand : goal.invariant-loop-stand
+invariant-loop-stand l = (w : ℕ) (D : Set) → State l.table l.k w D l.initial.list 0 1 → State l.table l.k w D l.list l.stand.done l.stand.all × Kept w l.initial.list l.list
 
-abbrev pub decreases-loop-g : goal.decreases-loop-g
-decreases-loop-g l = above l.k (set_at l.list) l.g l.c
+abbrev pub decreases-loop-stand : goal.decreases-loop-stand
+decreases-loop-stand l = above l.k (set_at l.list) l.stand.done l.stand.all

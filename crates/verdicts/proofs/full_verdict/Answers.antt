@@ -1,0 +1,8 @@
+use native.Mathlib.Omega.{arith}
+use Rattle.search.proofs.Reply.{safe_holds}
+use Rattle.pairs.proofs.Starts.{below}
+use Rattle.verdicts.proofs.full_verdict.Goals as goal
+
+-- `verdicts::full_verdict` meets its contract.
+pub returns-in-None : goal.returns-in-None
+returns-in-None c = safe_holds (below c.args.p) (omega arith) c.in-None.ensures
