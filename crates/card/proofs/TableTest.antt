@@ -10,10 +10,6 @@ use lib.Bits.{bit_and}
 use lib.Dec.{ltb, eqb}
 use lib.ListN.{length, get_or, get_or-eq_default}
 use borrow.Author.Tests.{eq-eqb, ne_eqb, ltb-false, le-ltb}
-use Rattle.std.specs.Prelude.{HoldsAt}
-use Rattle.std.specs.List.{range_with_len, AllWithin}
-use Rattle.std.specs.Bool.{MatchBool}
-use Rattle.std.proofs.lemmas.List.FromFn.{length-range_with_len, get_or-range_with_len}
 use Rattle.stations.specs.Sets.{Set, ◌is_in◌, ◌not_in◌, ◌part_of◌}
 use Rattle.stations.specs.Answers.{Taken}
 use Rattle.stations.specs.Words.{bit, has, row}
