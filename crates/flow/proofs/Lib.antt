@@ -1,4 +1,3 @@
-pub mod Marks
 pub mod Way
 pub mod Sweeping
 pub mod Outcome

@@ -6,7 +6,7 @@ use mathlib.Core.Logic.{◌≢◌}
 use mathlib.Core.Path.{◌≡◌, refl, sym, ap, ◌∙◌}
 use Prim.Native.Nat.{ℕ, ◌≤◌}
 use native.Mathlib.Omega.{arith}
-use Rattle.stations.specs.Sets.{◌is_in◌, ◌part_of◌}
+use Rattle.stations.specs.Sets.{◌is_in◌}
 use Rattle.stations.specs.Words.{has, row, words, members}
 use Rattle.stations.specs.declared.StationSet.{StationSet}
 use Rattle.stations.proofs.Bools.{same_bool}
@@ -27,9 +27,6 @@ module _ {t : List ℕ} {set : StationSet} {a b : ℕ} (A : Asked t set a b) (in
     (from-a : words starts ≡ row t a) (from-b : words ends ≡ row t b) where
   pair_of : (w : ℕ) → w is_in members inner → (w is_in members set) × (w ≢ a) × (w ≢ b)
   pair_of w m = of_others (members set) a b w (sym (law w) ∙ m)
-
-  pub pair_inner : members inner part_of members set
-  pair_inner w m = (pair_of w m).0
 
   two_ways : (v w : ℕ) → linked t v w ≡ linked t w v
   two_ways v w = same_bool (linked t v w) (linked t w v) (A.mesh.both v w) (A.mesh.both w v)

@@ -1,151 +1,67 @@
 // The holding question: does a set hold at a level, and where it does not, which loss parts it?
 #![tactic(auto)]
 
-ghost use Rattle.std.specs.Prelude.{◌≡◌, ℕ};
-ghost use Rattle.stations.specs.Words.{members};
-ghost use Rattle.holding.specs.Reply.{number, verdict, weak_set, Replies, brief_number, brief_verdict, Judges};
-ghost use Rattle.holding.specs.Steps.{Accepted, Says, SaysBriefly};
+ghost use Rattle.std.specs.Prelude.{◌≡◌, IfOk};
+ghost use Rattle.card.specs.Card.{number_of, FirstFailing};
+ghost use Rattle.holding.specs.Reply.{verdict, order, Replies, Judges};
+ghost use Rattle.holding.specs.Steps.{alone};
 
-use card::{Refusal, Tested};
+use card::{Mesh, Refusal};
 use stations::StationSet;
+use verdicts::Verdict;
 
-#[derive(Clone, Copy)]
-pub enum Answer {
-    Holds,
-    Few,
-    Weak(StationSet),
-    Refused(Refusal),
-}
-
-// The reply in the numbers of the rules.
-impl Answer {
-    // The refusal's number, 0 where answered.
-    pub fn number(self) -> u64
-        ensures { result ≡ number self }
-    {
-        let answer = self;
-        match answer {
-            Answer::Holds => 0,
-            Answer::Few => 0,
-            Answer::Weak(_) => 0,
-            Answer::Refused(r) => r.number(),
-        }
-    }
-
-    // 0 for HOLDS, 1 for FEW, 2 for WEAK.
-    pub fn verdict(self) -> u64
-        ensures { result ≡ verdict self }
-    {
-        let answer = self;
-        match answer {
-            Answer::Holds => 0,
-            Answer::Few => 1,
-            Answer::Weak(_) => 2,
-            Answer::Refused(_) => 0,
-        }
-    }
-
-    // The weak set, or the empty set.
-    pub fn weak_set(self) -> StationSet
-        ensures { (x : ℕ) → members result x ≡ weak_set self x }
-    {
-        let answer = self;
-        match answer {
-            Answer::Holds => StationSet::empty(),
-            Answer::Few => StationSet::empty(),
-            Answer::Weak(s) => s,
-            Answer::Refused(_) => StationSet::empty(),
-        }
-    }
-}
-
-// The verdict alone, without the weak set.
-#[derive(Clone, Copy)]
-pub enum Brief {
-    Holds,
-    Few,
-    Weak,
-    Refused(Refusal),
-}
-
-impl Brief {
-    // The refusal's number, 0 where answered.
-    pub fn number(self) -> u64
-        ensures { result ≡ brief_number self }
-    {
-        let brief = self;
-        match brief {
-            Brief::Holds => 0,
-            Brief::Few => 0,
-            Brief::Weak => 0,
-            Brief::Refused(r) => r.number(),
-        }
-    }
-
-    // 0 for HOLDS, 1 for FEW, 2 for WEAK.
-    pub fn verdict(self) -> u64
-        ensures { result ≡ brief_verdict self }
-    {
-        let brief = self;
-        match brief {
-            Brief::Holds => 0,
-            Brief::Few => 1,
-            Brief::Weak => 2,
-            Brief::Refused(_) => 0,
-        }
-    }
-}
-
-// The answer once every test has passed. The four words are read where they lie, so they may be a row of a list.
-fn ask(n: usize, table: &[u64], k: usize, set: &[u64]) -> Answer
-    requires { Accepted n table.now k set.now }
-    ensures { Says n table.now k set.now result }
+// The tests of both questions, in the order 2, 3, 4, 1, 6.
+fn accept<'a>(n: usize, table: &'a [u64], k: usize, set: &[u64]) -> Result<Mesh<'a>, Refusal>
+    ensures refused { FirstFailing (order n table.now k set.now) (number_of result) }
+    ensures same { IfOk result (λ m. (m.n ≡ n) × (m.table ≡ table.entry)) }
 {
-    let v = verdicts::verdict(table, StationSet::of_row(set, 0), k);
-    match v {
-        verdicts::Answer::Holds => Answer::Holds,
-        verdicts::Answer::Few => Answer::Few,
-        verdicts::Answer::Weak(s) => Answer::Weak(s),
-    }
+    let mesh = Mesh::accept(n, table)?;
+    card::test_level(k)?;
+    card::test_set(n, set)?;
+    Ok(mesh)
 }
 
-// The holding question. Refusals in the order 2, 3, 4, 1, 6.
-pub fn holding(n: usize, table: &[u64], k: usize, set: &[u64]) -> Answer
+// The holding question. The four words are read where they lie, so they may be a row of a list.
+pub fn holding(
+    n: usize,
+    table: &[u64],
+    k: usize,
+    set: &[u64],
+) -> Result<Verdict<StationSet>, Refusal>
     ensures { Replies n table.now k set.now result }
 {
-    let of_table = card::test_table(n, table);
-    let of_level = card::test_level(k);
-    let of_set = card::test_set(n, set);
-    let tested = of_table.then(of_level).then(of_set);
-    match tested {
-        Tested::Passed => ask(n, table, k, set),
-        Tested::Failed(r) => Answer::Refused(r),
-    }
+    let mesh = accept(n, table, k, set)?;
+    let told = verdicts::full_verdict(mesh.table, StationSet::of_row(set, 0), k);
+    Ok(told)
 }
 
-// The verdict alone, once every test has passed: one search.
-fn judge(n: usize, table: &[u64], k: usize, set: &[u64]) -> Brief
-    requires { Accepted n table.now k set.now }
-    ensures { SaysBriefly n table.now k set.now result }
+// A verdict without the loss that it names.
+fn alone(told: Verdict<StationSet>) -> Verdict<()>
+    ensures { result ≡ alone told }
 {
-    let v = verdicts::judge(table, StationSet::of_row(set, 0), k);
-    match v {
-        verdicts::Judged::Holds => Brief::Holds,
-        verdicts::Judged::Few => Brief::Few,
-        verdicts::Judged::Parted(_) => Brief::Weak,
+    match told {
+        Verdict::Holds => Verdict::Holds,
+        Verdict::Few => Verdict::Few,
+        Verdict::Weak(_) => Verdict::Weak(()),
     }
 }
 
-// The holding question for the verdict alone. Refusals in the order 2, 3, 4, 1, 6.
-pub fn judged(n: usize, table: &[u64], k: usize, set: &[u64]) -> Brief
+// The holding question for the verdict alone: one search.
+pub fn judged(n: usize, table: &[u64], k: usize, set: &[u64]) -> Result<Verdict<()>, Refusal>
     ensures { Judges n table.now k set.now result }
 {
-    let of_table = card::test_table(n, table);
-    let of_level = card::test_level(k);
-    let of_set = card::test_set(n, set);
-    let all = of_table.then(of_level).then(of_set);
-    match all {
-        Tested::Passed => judge(n, table, k, set),
-        Tested::Failed(r) => Brief::Refused(r),
+    let asked = accept(n, table, k, set)?;
+    let brief = alone(verdicts::judge(asked.table, StationSet::of_row(set, 0), k));
+    Ok(brief)
+}
+
+// The verdict of a reply in the numbers of the rules: 0 for HOLDS, 1 for FEW, 2 for WEAK, and 0 for a refusal.
+pub fn verdict_of<W>(reply: &Result<Verdict<W>, Refusal>) -> u64
+    ensures { result ≡ verdict reply.now }
+{
+    match reply {
+        Ok(Verdict::Few) => 1,
+        Ok(Verdict::Weak(_)) => 2,
+        _ => 0,
     }
 }

@@ -10,25 +10,12 @@ use Rattle.stations.proofs.Bools.{test, never}
 use Rattle.stations.proofs.Members.{in_less, of_without}
 use Rattle.stations.proofs.Counting.{size_ext}
 use Rattle.mesh.specs.Mesh.{Links}
-use Rattle.pairs.specs.Piece.{Fewest}
 
 pub record Leading (L : Links) (p : Set) (at best : ℕ) (rest : Set) : Type 0 where
   pub mine : at is_in p
   pub count : best ≡ size 256 (p cut L at)
   pub inside : rest part_of p
   pub least : (x : ℕ) → x is_in p → x not_in rest → best ≤ size 256 (p cut L x)
-
-pub leading_begin : (L : Links) (p : Set) (at best : ℕ) (rest : Set) → at is_in p → best ≡ size 256 (p cut L at) → ((x : ℕ) → rest x ≡ (p without only at) x) → Leading L p at best rest
-leading_begin L p at best rest g e lr = record {
-  mine = g;
-  count = e;
-  inside = λ x i. (of_without p (only at) x (sym (lr x) ∙ i)).0;
-  least = λ x i o. go x i o (ℕ_discrete x at);
-}
-  where
-    go : (x : ℕ) → x is_in p → x not_in rest → Dec (x ≡ at) → best ≤ size 256 (p cut L x)
-    go x i o (yes d) = rw d (omega arith)
-    go x i o (no d) = never (rest x) (lr x ∙ in_less p at x i d) o
 
 -- v is looked at: it has d links
 module _ (L : Links) (p : Set) (at best : ℕ) (rest : Set) (h : Leading L p at best rest) (v d : ℕ) (rest' : Set) (mine : v is_in rest) (count : d ≡ size 256 (p cut L v))
@@ -50,9 +37,6 @@ module _ (L : Links) (p : Set) (at best : ℕ) (rest : Set) (h : Leading L p at 
 
   pub leading_pass : best ≤ d → Leading L p at best rest'
   leading_pass l = record { mine = h.mine; count = h.count; inside = inside; least = least best (omega arith) l }
-
-pub leading_end : (L : Links) (p : Set) (at best : ℕ) (rest : Set) → Leading L p at best rest → ((x : ℕ) → x not_in rest) → Fewest L p at
-leading_end L p at best rest h z = record { mine = h.mine; least = λ x g. omega (arith, h.count, h.least x g (z x)) }
 
 pub count_links : (s t : Set) (d : ℕ) → d ≡ size 256 s → ((x : ℕ) → s x ≡ t x) → d ≡ size 256 t
 count_links s t d e f = e ∙ size_ext 256 s t (λ x l. f x)

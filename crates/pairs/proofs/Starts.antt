@@ -2,30 +2,26 @@
 -- (around_..).
 use mathlib.Core.List.{List}
 use Rattle.std.proofs.Common.{Option, Some, None}
-use mathlib.Core.Path.{◌≡◌, refl, sym, ◌∙◌, ap, subst, subst₂, fun_ext}
+use mathlib.Core.Path.{◌≡◌, refl, subst, subst₂, fun_ext}
 use Prim.Native.Nat.{ℕ, ◌+◌}
 use native.Mathlib.Omega.{arith}
-use Rattle.stations.specs.Sets.{Set, ◌is_in◌, ◌not_in◌, ◌part_of◌, only, ◌without◌, ◌cut◌, Below, size}
+use Rattle.stations.specs.Sets.{Set, ◌is_in◌, ◌part_of◌, only, ◌without◌, ◌cut◌, Below, size}
 use Rattle.stations.specs.Words.{words, members}
 use Rattle.stations.specs.declared.StationSet.{StationSet}
-use Rattle.stations.proofs.Bools.{never, and_left, and_right}
-use Rattle.stations.proofs.Members.{of_without, in_less, is_only}
+use Rattle.stations.proofs.Members.{of_without, is_only}
 use Rattle.stations.proofs.Counting.{size_minus, size_minus_one}
 use Rattle.stations.proofs.Laws.{has_small}
 use Rattle.mesh.specs.Mesh.{Whole}
 use Rattle.mesh.specs.Table.{linked}
 use Rattle.search.specs.Losses.{every, WeakPair, Sought}
 use Rattle.search.proofs.AllSources.{sought_all, sought_around, size_nothing}
-use Rattle.pairs.specs.Piece.{Piece, Start, Fewest, SettledOf, WeakOf, AroundOf}
+use Rattle.pairs.specs.Piece.{Piece, SettledOf, WeakOf, AroundOf}
 use Rattle.pairs.specs.declared.WeakPair as declared
 
 pub below : (s : StationSet) → Below 256 (members s)
 below s x g = has_small (words s) x refl g
 
 -- ---- all stations of p may be sources
-pub weak_start : (t : List ℕ) (p : StationSet) (u : ℕ) → Piece t p → Fewest (linked t) (members p) u → Start t p p p u
-weak_start t p u h f = record { piece = h; part = λ x g. g; inside = λ x g. g; source = f.mine }
-
 pub weak_of : (t : List ℕ) (p : StationSet) (k : ℕ) (r : Option declared.WeakPair) → SettledOf t p p p k r → WeakOf t p k r
 weak_of t p k None h =
     λ S o. h S (sought_all (linked t) 256 every (size 256 (members p without members p) + k) (members p) S
@@ -35,24 +31,9 @@ weak_of t p k (Some r) h = subst (λ (j : ℕ). WeakPair (linked t) 256 every j 
     e : size 256 (members p without members p) + k ≡ k
     e = omega (arith, size_nothing 256 (members p))
 
-pub weak_none : (t : List ℕ) (p : StationSet) (k : ℕ) → ((x : ℕ) → x not_in members p) → WeakOf t p k None
-weak_none t p k z = λ S o x y g. never (members p x) (of_without (members p) S x g).0 (z x)
-
 -- ---- j is taken out, and its links may be sources
 module _ (t : List ℕ) (p : StationSet) (j : ℕ) (h : Piece t p) (mine : j is_in members p) (q links : StationSet) (ll : (x : ℕ) → members links x ≡ (members p cut linked t j) x) where
-  pub around_none : (l : ℕ) → ((x : ℕ) → x not_in members links) → AroundOf t p j l None
-  around_none l z = λ S o x y g. let (w, i, c) = o.toward x g in never (members links w) (ll w ∙ i) (z w)
-
   module _ (lq : (x : ℕ) → members q x ≡ (members p without only j) x) where
-    pub around_start : (u : ℕ) → u is_in members links → Start t p q links u
-    around_start u g = record {
-      piece = h;
-      part = λ x i. (of_without (members p) (only j) x (sym (lq x) ∙ i)).0;
-      inside = λ x i. lq x ∙ (let e = sym (ll x) ∙ i in
-          in_less (members p) j x (and_left (members p x) (linked t j x) e) (λ d. never (linked t j j) (ap (linked t j) (sym d) ∙ and_right (members p x) (linked t j x) e) (h.mesh.apart j)));
-      source = g;
-    }
-
     -- one station is taken out
     one_out : size 256 (members p without (members p without only j)) ≡ 1
     one_out = omega (

@@ -4,31 +4,19 @@ use mathlib.Core.Bool.{true, false, ◌&&◌}
 use mathlib.Core.List.{List}
 use mathlib.Core.Logic.{◌⊎◌, inl, inr}
 use mathlib.Core.Path.{◌≡◌, refl, sym, ◌∙◌, subst}
-use Prim.Native.Nat.{ℕ, ◌+◌, ◌*◌, ◌<◌, ◌≤◌}
+use Prim.Native.Nat.{ℕ, ◌+◌, ◌*◌, ◌<◌}
 use native.Mathlib.Decide.{dec_lt, ℕ_discrete}
 use native.Mathlib.Omega.{arith}
 use lib.Dec.{eqb}
-use lib.ListN.{length, get_or, set, replicate, length-set, get_or-eq_default}
+use lib.ListN.{length, get_or, replicate, get_or-eq_default}
 use Rattle.std.proofs.lemmas.List.{get_or-replicate, length-replicate}
-use lib.Seq.{get_or-set_same, get_or-set_other}
 use borrow.Author.Tests.{eq-eqb, eqb-true}
 use Rattle.stations.proofs.Bools.{test, never, and_left, and_right, and_in, or_cases, or_left, or_right}
 use Rattle.mesh.specs.Table.{linked, Table}
 use Rattle.records.specs.Bytes.{Words}
-use Rattle.records.specs.Survey.{serial, low, high, Survey}
+use Rattle.records.specs.Survey.{low, high, Survey}
 use Rattle.reader.specs.Steps.{Accepted, SerialsFilled, LinkPut, Joins, Filled}
 use Rattle.reader.proofs.Put.{no_link}
-
--- ---- serials
-pub serials_none : (bs s : List ℕ) → SerialsFilled bs 0 s s
-serials_none bs s = record { whole = refl; each = λ k l. absurd (omega arith) }
-
-pub serials_more : {bs s s' : List ℕ} {i : ℕ} (x : ℕ) → SerialsFilled bs i s s' → i < length s → x ≡ serial 4 bs i → SerialsFilled bs (i + 1) s (set s' i x)
-serials_more {bs} {s} {s'} {i} x F l e = record { whole = length-set s' i x ∙ F.whole; each = λ k h. at k h (ℕ_discrete k i) }
-  where
-    at : (k : ℕ) → k < i + 1 → Dec (k ≡ i) → get_or (set s' i x) k 0 ≡ serial 4 bs k
-    at k h (yes q) = rw q (get_or-set_same s' i x 0 (omega (arith, F.whole)) ∙ e)
-    at k h (no q) = get_or-set_other s' i k x 0 q ∙ F.each k (omega arith)
 
 -- ---- the table
 pub filled_none : (bs t : List ℕ) (n : ℕ) → length t ≡ n * 4 → ((i : ℕ) → get_or t i 0 ≡ 0) → Filled bs n 0 t
@@ -65,18 +53,6 @@ module _ {bs t t' t'' : List ℕ} {n j : ℕ} (F : Filled bs n j t) (a b : ℕ) 
       from : (x y : ℕ) → (linked t' x y ≡ true) ⊎ ((eqb x b && eqb y a) ≡ true) → (k : ℕ) × (k < j + 1) × Joins bs n k x y
       from x y (inl e) = first x y (or_cases (linked t x y) (eqb x a && eqb y b) (sym (L.law x y) ∙ e))
       from x y (inr e) = let (u, v) = was x y b a e in (j, omega arith, inr (sym p ∙ sym v, sym q ∙ sym u))
-
--- the two stations of a record
-pub ends : {bs : List ℕ} {n m : ℕ} → Accepted bs n m → (j a b : ℕ) → j < m → a ≡ low 4 n bs j → b ≡ high 4 n bs j → (a < b) × (b < n) × (n ≤ 256)
-ends A j a b l p q = (omega (arith, A.pairs_right.apart j l), omega (arith, A.pairs_right.below j l), A.few)
-
--- all records are past
-pub filled_all : {bs t : List ℕ} {n j : ℕ} (m : ℕ) → Filled bs n j t → m ≤ j → j ≤ m → Filled bs n m t
-filled_all {bs} {t} {n} m F l h = record {
-  whole = F.whole;
-  each = λ k x y i. F.each k x y (omega arith);
-  only = λ x y e. let (k, i, J) = F.only x y e in (k, omega arith, J);
-}
 
 -- ---- the survey
 module _ {bs : List ℕ} {n m : ℕ} (A : Accepted bs n m) {t : List ℕ} (F : Filled bs n m t) where

@@ -6,6 +6,7 @@ use Prim.Native.Nat.{ℕ, ◌*◌, ◌≤◌}
 use native.Mathlib.Omega.{arith}
 use lib.ListN.{length, get_or, drop}
 use lib.Seq.{take_at, drop_at}
+use Rattle.std.specs.Prelude.{Result, Ok, Err, IsErrAnd}
 use Rattle.card.specs.Card.{number, Test, FirstFailing}
 use Rattle.card.specs.declared.Refusal.{Refusal}
 use Rattle.card.proofs.Card.{Numbered, Passes, none_fails, number_above, first_go}
@@ -15,28 +16,18 @@ use Rattle.records.specs.Lines.{MARK, VERSION, COUNT, LENGTH, ROOM, SERIAL, LINK
 use Rattle.records.proofs.Climbing.{serials_right, pairs_right}
 use Rattle.records.proofs.Order.{stable, at_most}
 use Rattle.reader.specs.Reply.{Reads}
-use Rattle.std.specs.Prelude.{Result, Ok, Err, IsErrAnd}
 use Rattle.reader.specs.declared.Heading.{Heading}
 use Rattle.reader.specs.Steps.{Heads, Accepted}
-
-pub mark_numbered : (bs : List ℕ) → Numbered (MARK bs ∷ [])
-mark_numbered bs = (omega arith, tt)
 
 pub order_numbered : (bs : List ℕ) (p q : ℕ) → Numbered (reader_order bs p q)
 order_numbered bs p q = (omega arith, (omega arith, (omega arith, (omega arith, (omega arith, (omega arith, (omega arith, tt)))))))
 
-pub mark_passed : (bs : List ℕ) → FirstFailing (MARK bs ∷ []) 0 → (9 ≤ length bs) × Mark bs
-mark_passed bs f = go (none_fails (MARK bs ∷ []) (mark_numbered bs) f)
-  where
-    go : Passes (MARK bs ∷ []) → (9 ≤ length bs) × Mark bs
-    go (h, _) = (
-      at_most 9 (length bs) (λ l. h (inl l)),
-      (
-        stable (get_or bs 0 0) 82 (λ o. h (inr (λ m. o m.0))),
-        stable (get_or bs 1 0) 76 (λ o. h (inr (λ m. o m.1))),
-        stable (get_or bs 2 0) 77 (λ o. h (inr (λ m. o m.2))),
-      ),
-    )
+mark_right : (bs : List ℕ) → ¬ (MARK bs).fails → Mark bs
+mark_right bs h = (
+  stable (get_or bs 0 0) 82 (λ o. h (inr (λ m. o m.0))),
+  stable (get_or bs 1 0) 76 (λ o. h (inr (λ m. o m.1))),
+  stable (get_or bs 2 0) 77 (λ o. h (inr (λ m. o m.2))),
+)
 
 -- ---- the reader's order, step by step: 8 passed, and 9, 10 and 11 with the heading h, so the rest decides
 abbrev pub rest : List ℕ → ℕ → ℕ → ℕ → ℕ → List Test
@@ -61,11 +52,10 @@ passed bs h serials words o H f = go (none_fails (reader_order bs serials words)
   where
     go : Passes (reader_order bs serials words) → Passed bs h serials words
     go (mark, (v, (count, (l, (room, (serial, (link, _))))))) =
-        let (nine, m) = mark_passed bs (inr (mark, refl)) in
         record {
           accepted = record {
             few = H.few;
-            frame = record { octets = o; mark = m; version_is = stable (version bs) 1 v; stations_are = sym H.stations_are; records_are = sym H.records_are; whole = H.whole; few_records = H.most };
+            frame = record { octets = o; mark = mark_right bs mark; version_is = stable (version bs) 1 v; stations_are = sym H.stations_are; records_are = sym H.records_are; whole = H.whole; few_records = H.most };
             serials_right = rw H.stations_are (serials_right (stations bs) _ serial);
             pairs_right = rw (H.stations_are, H.records_are) (pairs_right (stations bs) (records bs) _ _ link);
           };

@@ -11,7 +11,7 @@ use Rattle.stations.proofs.Bools.{test, never, not_so, or_cases, or_left, or_rig
 use Rattle.stations.proofs.Members.{in_without, of_without, in_cut, of_cut, only_is, is_only}
 use Rattle.stations.proofs.Counting.{full}
 use Rattle.mesh.specs.Mesh.{Links, Touch, here}
-use Rattle.mesh.proofs.Chains.{touch_start, touch_end, touch_link, closed_touch}
+use Rattle.mesh.proofs.Chains.{touch_end, touch_link, closed_touch}
 use Rattle.touch.specs.Reach.{Island, Spread}
 
 -- r is reached from a inside s, p is the front
@@ -37,10 +37,6 @@ grown_inside g x e = touch_end (g.sound x (g.waits x e))
 -- at the end
 pub grown_all : (L : Links) (s : Set) (a : ℕ) (r p : Set) → Grown L s a r p → ((x : ℕ) → x not_in p) → Island L s a r
 grown_all L s a r p g z = record { only = g.sound; all = λ x c. closed_touch r (λ x y i j l. g.closed x y i (z x) l j) c g.began }
-
--- nothing is in touch with a station outside the set
-pub island_none : (L : Links) (s : Set) (a : ℕ) (r : Set) → a not_in s → ((x : ℕ) → x not_in r) → Island L s a r
-island_none L s a r h z = record { only = λ x e. never (r x) e (z x); all = λ x c. never (s a) (touch_start c) h }
 
 -- ---- a wave: u is what the front is linked to, n what of it is in the set and not reached
 module _ (L : Links) (s : Set) (a : ℕ) (r p u n r' : Set) (g : Grown L s a r p) (f : Spread L p u)

@@ -9,34 +9,24 @@ use Rattle.stations.specs.Words.{members}
 use Rattle.stations.specs.Answers.{Least}
 use Rattle.stations.specs.declared.StationSet.{StationSet}
 use Rattle.stations.proofs.Bools.{never, or_left, or_right}
-use Rattle.stations.proofs.Members.{in_without, of_without}
 use Rattle.mesh.specs.Mesh.{Whole}
 use Rattle.mesh.specs.Table.{linked}
 use Rattle.search.specs.Losses.{every, WeakPair, Smallest, Safe, Around}
-use Rattle.search.proofs.FirstLoss.{Taking, fresh, taking_begin, taking_witness, taking_more, taking_end, taking_pass, taking_take}
+use Rattle.search.proofs.FirstLoss.{Taking, taking_begin, taking_witness, taking_more, taking_end, taking_pass, taking_take}
 use Rattle.search.proofs.SmallestLoss.{smallest_part, smallest_size, witness_next, none_around}
 use Rattle.search.proofs.Reply.{pair_loss, weak_set}
-use Rattle.pairs.specs.Piece.{Piece, AroundOf}
+use Rattle.pairs.specs.Piece.{AroundOf}
 use Rattle.verdicts.specs.Verdicts.{SmallestWeak, FirstWeak, Trial, Led}
 use Rattle.pairs.specs.declared.WeakPair as declared
 use Rattle.pairs.proofs.Starts.{below}
 
 -- ---- a station j is tried
 module _ {t : List ℕ} {p taken witness : StationSet} {j left : ℕ} (h : Trial t p taken witness j left) where
-  pub led_has : j is_in members witness → Led t p taken j left witness
-  led_has g = record { leads = h.leads; none = λ o. never (members witness j) g o }
-
   part : members taken part_of members p
   part x g = h.leads.small.weak.loss.part x (h.leads.has x g)
 
   -- in p without the taken stations
   module _ (rest : StationSet) (lr : (x : ℕ) → members rest x ≡ (members p without members taken) x) where
-    pub led_piece : Piece t rest × (j is_in members rest)
-    led_piece = (
-      record { fits = λ x g. h.piece.fits x (of_without (members p) (members taken) x (sym (lr x) ∙ g)).0; mesh = h.piece.mesh },
-      lr j ∙ in_without (members p) (members taken) j h.mine h.fresh,
-    )
-
     pub led_found : (w : declared.WeakPair) (r : StationSet) → AroundOf t rest j left (Some w) → ((x : ℕ) → members r x ≡ (members w.loss joined members taken) x) → Led t p taken j left r
     led_found w r a e = record {
       leads = record {
@@ -69,15 +59,6 @@ module _ (t : List ℕ) (p : StationSet) (c : ℕ) (taken witness rest : Station
 
   -- j is the next station
   module _ (j : ℕ) (l : Least (members rest) j) where
-    pub take_trial : Piece t p → Safe (linked t) 256 every c (members p) → Trial t p taken witness j left
-    take_trial piece safe = record {
-      piece = piece;
-      leads = record { small = subst (λ (i : ℕ). Small i (members witness)) (sym h.count) h.sought; has = h.has };
-      safe = subst (λ (i : ℕ). Safe (linked t) 256 every i (members p)) (sym h.count) safe;
-      mine = h.inside j l.mine;
-      fresh = fresh smallest_part smallest_size h j l.mine;
-    }
-
     module _ (w rest' : StationSet) (led : Led t p taken j left w) (lr : (x : ℕ) → members rest' x ≡ (members rest without only j) x) where
       sought : Small c (members w)
       sought = subst (λ (i : ℕ). Small i (members w)) h.count led.leads.small

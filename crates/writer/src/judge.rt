@@ -2,12 +2,12 @@
 ghost use Rattle.std.specs.Prelude.{◌&&◌, [], ◌∷◌, ◌≡◌, ℕ, ◌+◌, ◌*◌, ◌<◌, ◌≤◌, ltb, length};
 ghost use Rattle.stations.specs.Words.{members};
 ghost use Rattle.mesh.specs.Table.{linked, Table};
-ghost use Rattle.card.specs.Card.{verdict, FirstFailing};
+ghost use Rattle.card.specs.Card.{number_of, FirstFailing};
 ghost use Rattle.records.specs.Bytes.{Words};
 ghost use Rattle.records.specs.Survey.{link_count};
 ghost use Rattle.records.specs.Lines.{LINK_COUNT, FILE_ROOM, writer_order};
 
-use card::{Refusal, Tested};
+use card::Refusal;
 use stations::StationSet;
 
 // The stations above a that a is linked to.
@@ -25,35 +25,35 @@ pub(crate) fn count_links(table: &[u64], n: usize) -> usize
 {
     let mut m = 0;
     for a in 0..n {
-        m = m + above(table, a).size();
+        m += above(table, a).size();
     }
     m
 }
 
 // 10, 14: at most 8,192 links, and room for the file.
-fn test_size(n: usize, table: &[u64], room: usize) -> Tested
+fn test_size(n: usize, table: &[u64], room: usize) -> Result<(), Refusal>
     requires { Table n table.now }
-    ensures { FirstFailing (LINK_COUNT n table.now ∷ FILE_ROOM n table.now room ∷ []) (verdict result) }
+    ensures { FirstFailing (LINK_COUNT n table.now ∷ FILE_ROOM n table.now room ∷ []) (number_of result) }
 {
     let m = count_links(table, n);
     if 8192 < m {
-        return Tested::Failed(Refusal::Count);
+        return Err(Refusal::Count);
     }
     if room < 9 + n * 4 + m * 4 {
-        return Tested::Failed(Refusal::Room);
+        return Err(Refusal::Room);
     }
-    Tested::Passed
+    Ok(())
 }
 
 // Every test of the writer: 2, 3, 4, 12, 10, 14.
-pub(crate) fn test_survey(n: usize, serials: &[u32], table: &[u64], room: usize) -> Tested
-    ensures { FirstFailing (writer_order n serials.now table.now room) (verdict result) }
+pub(crate) fn test_survey(
+    n: usize,
+    serials: &[u32],
+    table: &[u64],
+    room: usize,
+) -> Result<(), Refusal>
+    ensures { FirstFailing (writer_order n serials.now table.now room) (number_of result) }
 {
-    let of_table = card::test_table(n, table);
-    let Tested::Passed = of_table else {
-        return of_table;
-    };
-    let of_serials = records::test_given(n, serials);
-    let of_size = test_size(n, table, room);
-    of_serials.then(of_size)
+    card::test_table(n, table)?;
+    records::test_given(n, serials).and(test_size(n, table, room))
 }

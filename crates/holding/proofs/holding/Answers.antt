@@ -1,32 +1,13 @@
-use mathlib.Core.Path.{ap, subst}
-use Rattle.card.specs.Card.{FirstFailing, verdict}
-use Rattle.card.specs.declared.Tested.{Tested}
-use Rattle.holding.specs.Reply.{order}
-use Rattle.holding.proofs.Laws.{ordered, passed, replied, refused_reply}
-use Rattle.holding.proofs.holding.Goals.{After-then-tested}
+use Rattle.std.proofs.lemmas.Result.{err_from_is_err_and}
+use Rattle.holding.proofs.Laws.{replied, refused_reply}
 use Rattle.holding.proofs.holding.Goals as goal
 
--- the number that the tests come to
-first : (c : After-then-tested) → let s = c.args in
-    FirstFailing (order s.n s.table.now s.k s.set.now) (verdict c.then-tested.result)
-first c = let s = c.args in
-    ordered s.n s.table.now s.k s.set.now _ _ _ _ _ c.test_table-of_table.ensures c.test_level-of_level.ensures c.test_set-of_set.ensures c.then.ensures c.then-tested.ensures
+pub returns-in_err-mesh : goal.returns-in_err-mesh
+returns-in_err-mesh c = let a = c.args in
+    let p = err_from_is_err_and c.from_residual.result c.from_residual.ensures.1 in
+    rw (p.1, p.2) (refused_reply a.n a.table.now a.k a.set.now _ c.in_err-mesh.ensures.refused)
 
-pub ask-requires : goal.ask-requires
-ask-requires c =
-    let e = (goal.at.ask-requires c).After-then-tested in
-    let s = c.args in
-    passed s.n s.table.now s.k s.set.now _ (first e) (ap verdict c.in-Passed.is)
-
-pub returns-in-Passed : goal.returns-in-Passed
-returns-in-Passed c =
-    let e = (goal.at.returns-in-Passed c).After-then-tested in
-    let s = c.args in
-    replied s.n s.table.now s.k s.set.now c.ask.result (verdict c.then-tested.result) (first e) (ap verdict c.in-Passed.is) c.ask.ensures
-
-pub returns-in-Failed : goal.returns-in-Failed
-returns-in-Failed c =
-    let e = (goal.at.returns-in-Failed c).After-then-tested in
-    let s = c.args in
-    refused_reply s.n s.table.now s.k s.set.now c.in-Failed.r
-    (subst (λ (v : Tested). FirstFailing (order s.n s.table.now s.k s.set.now) (verdict v)) c.in-Failed.is (first e))
+pub returns : goal.returns
+returns c = let a = c.args in
+    let s = c.in_ok-mesh.ensures.same in
+    replied a.n a.table.now a.k a.set.now c.in_ok-mesh.ensures.refused c.of_row.result c.of_row.ensures c.full_verdict-told.result (rw s.1 at c.full_verdict-told.ensures)

@@ -1,14 +1,10 @@
 use mathlib.Core.Path.{refl}
 use Rattle.stations.proofs.Laws.{has_small}
-use Rattle.pairs.proofs.Links.{count_links, leading_begin, leading_take, leading_pass, leading_end}
+use Rattle.pairs.proofs.Links.{count_links, leading_take, leading_pass}
 use Rattle.pairs.proofs.fewest.Goals as goal
 
 pub without-v-items-requires : goal.without-v-items-requires
 without-v-items-requires c = has_small _ _ refl c.requires.1
-
-pub loop-v-init : goal.loop-v-init
-loop-v-init c = rw c.into_iter-v-iterator.ensures.into_iter_gives
-    (leading_begin _ _ _ _ _ c.requires.1 (count_links _ _ _ c.size-best.ensures (λ x. simp (c.cut.ensures, c.of_row.ensures))) c.without-v-items.ensures)
 
 pub loop-v-preserved-then-links-best : goal.loop-v-preserved-then-links-best
 loop-v-preserved-then-links-best c = leading_take _ _ _ _ _ c.loop-v.invariant c.in-Some.v _ _ c.in-Some.ensures.steps.least.mine
@@ -17,6 +13,3 @@ loop-v-preserved-then-links-best c = leading_take _ _ _ _ _ c.loop-v.invariant c
 pub loop-v-preserved : goal.loop-v-preserved
 loop-v-preserved c = leading_pass _ _ _ _ _ c.loop-v.invariant c.in-Some.v _ _ c.in-Some.ensures.steps.least.mine
     (count_links _ _ _ c.size-links.ensures (λ x. simp (c.cut-in-loop-v.ensures, c.of_row-in-loop-v.ensures))) c.in-Some.ensures.steps.rest c.if-links-best.false
-
-pub returns : goal.returns
-returns c = leading_end _ _ _ _ _ c.loop-v.invariant c.in-None.ensures.steps.0

@@ -1,5 +1,8 @@
-use native.Mathlib.Omega.{arith}
-use Rattle.pairs.proofs.Turns.{open_begin, round_begin, round_turn, round_found, open_again, open_none, open_level}
+use Rattle.std.proofs.Common.{ℕ, ◌+◌, ◌*◌, ◌≤◌, length, arith}
+use Rattle.stations.specs.Sets.{◌is_in◌}
+use Rattle.stations.specs.Words.{members}
+use Rattle.pairs.proofs.Turns.{inner_in, open_begin, round_begin, round_turn, round_found, open_again, open_none, open_level}
+use Rattle.pairs.proofs.settle.Goals.{In-Some}
 use Rattle.pairs.proofs.settle.Goals as goal
 
 pub pairs-init : goal.pairs-init
@@ -8,6 +11,19 @@ pairs-init c = open_begin _ _ _ _ _ _ c.requires
 pub loop-v-init : goal.loop-v-init
 loop-v-init c = rw c.into_iter-v-iterator.ensures.into_iter_gives (round_begin c.requires.piece.mesh c.pairs.invariant c.cut-near.result c.with-known.result _
     (λ x. simp (c.cut-near.ensures, c.of_row.ensures)) c.with-known.ensures c.minus-v-items.ensures)
+
+-- the station that is tried, and its row
+tried : (c : In-Some) → c.in-Some.v is_in members c.pairs.q
+tried c = c.loop-v.invariant.inside c.in-Some.v c.in-Some.ensures.steps.least.mine
+
+has_row : (c : In-Some) (x : ℕ) → x is_in members c.pairs.q → x * 4 + 4 ≤ length c.args.table.now
+has_row c x i = c.requires.piece.fits x (c.pairs.invariant.peeled.part x i)
+
+pub of_row-requires-in-loop-v : goal.of_row-requires-in-loop-v
+of_row-requires-in-loop-v c = has_row (goal.at.of_row-requires-in-loop-v c).In-Some c.in-Some.v (tried (goal.at.of_row-requires-in-loop-v c).In-Some)
+
+pub flow-requires : goal.flow-requires
+flow-requires c = λ x i. has_row (goal.at.flow-requires c).In-Some x (inner_in (members c.pairs.q) c.pairs.u c.in-Some.v x (simp (c.without-inner.ensures, c.without.ensures) at i))
 
 -- v is firm with u
 pub loop-v-preserved : goal.loop-v-preserved

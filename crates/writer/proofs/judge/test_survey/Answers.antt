@@ -1,23 +1,19 @@
-use mathlib.Core.Path.{ap, subst}
-use Rattle.card.specs.Card.{FirstFailing, verdict, table_order}
-use Rattle.records.proofs.Order.{failed_above}
-use Rattle.writer.proofs.Tests.{order_table, order_rest, table_accepted}
-use Rattle.writer.proofs.judge.test_survey.Goals.{In-Passed}
+use mathlib.Core.List.{[], ◌∷◌}
+use native.Mathlib.Omega.{arith}
+use Rattle.card.specs.Card.{table_order}
+use Rattle.card.proofs.Card.{first_exit, first_go, first_and, table_numbered, table_passed}
+use Rattle.records.specs.Lines.{GIVEN_SERIAL, LINK_COUNT, FILE_ROOM}
+use Rattle.writer.proofs.Tests.{own}
 use Rattle.writer.proofs.judge.test_survey.Goals as goal
 
--- the table's tests passed
-passed : (c : In-Passed) → FirstFailing (table_order c.args.n c.args.table.now) 0
-passed c = subst (FirstFailing (table_order c.args.n c.args.table.now)) (ap verdict c.in-Passed.is)
-    c.test_table-of_table.ensures
+pub returns-in_err-test_table : goal.returns-in_err-test_table
+returns-in_err-test_table c = let s = c.args in
+    first_exit (table_order s.n s.table.now) (own s.n s.serials.now s.table.now s.room) _ _ c.from_residual.ensures.1 c.in_err-test_table.ensures
 
-pub returns-in_default : goal.returns-in_default
-returns-in_default c = let s = c.args in
-    order_table s.n s.serials.now s.table.now s.room _ c.test_table-of_table.ensures (failed_above _ _ c.in_default.is)
-
-pub test_size-of_size-requires : goal.test_size-of_size-requires
-test_size-of_size-requires c = let s = c.args in
-    table_accepted s.n s.serials.now s.table.now s.room (passed (goal.at.test_size-of_size-requires c).In-Passed)
+pub test_size-requires : goal.test_size-requires
+test_size-requires c = (table_passed c.args.n c.args.table.now [] tt c.in_ok-test_table.ensures).0
 
 pub returns : goal.returns
 returns c = let s = c.args in
-    order_rest s.n s.serials.now s.table.now s.room _ _ _ (passed (goal.at.returns c).In-Passed) c.test_given-of_serials.ensures c.test_size-of_size.ensures c.then.ensures
+    first_go (table_order s.n s.table.now) (own s.n s.serials.now s.table.now s.room) _ (table_numbered s.n s.table.now) c.in_ok-test_table.ensures
+    (rw c.and.ensures (first_and (GIVEN_SERIAL s.n s.serials.now ∷ []) (LINK_COUNT s.n s.table.now ∷ FILE_ROOM s.n s.table.now s.room ∷ []) c.test_given.result c.test_size.result (omega arith, tt) c.test_given.ensures c.test_size.ensures))
