@@ -10,10 +10,6 @@ use lib.Bits.{bit_and}
 use lib.Dec.{ltb, eqb}
 use lib.ListN.{length, get_or, get_or-eq_default}
 use borrow.Author.Tests.{eq-eqb, ne_eqb, ltb-false, le-ltb}
-use Rattle.std.specs.Prelude.{HoldsAt}
-use Rattle.std.specs.List.{range_with_len, AllWithin}
-use Rattle.std.specs.Bool.{MatchBool}
-use Rattle.std.proofs.lemmas.List.FromFn.{length-range_with_len, get_or-range_with_len}
 use Rattle.stations.specs.Sets.{Set, ◌is_in◌, ◌not_in◌, ◌part_of◌}
 use Rattle.stations.specs.Answers.{Taken}
 use Rattle.stations.specs.Words.{bit, has, row}
@@ -38,18 +34,12 @@ pub record Mirroring (t : List ℕ) (i : ℕ) (row left : Set) : Type 0 where
   pub mine : left part_of row
   pub past : (j : ℕ) → j is_in row → j not_in left → linked t j i ≡ true
 
-pub mirroring_none : (t : List ℕ) (i : ℕ) (row : Set) → Mirroring t i row row
-mirroring_none t i row = record { mine = λ j e. e; past = λ j e f. never (row j) e f }
-
 pub mirroring_more : {t : List ℕ} {i j : ℕ} {row left left' : Set} → Mirroring t i row left → Taken left j left' → linked t j i ≡ true → Mirroring t i row left'
 mirroring_more {t} {i} {j} {row} {left} {left'} g p e = record { mine = λ x m. g.mine x (and_left (left x) (not (eqb x j)) (sym (p.rest x) ∙ m)); past = λ x m f. go x m f (ℕ_discrete x j) }
   where
     go : (x : ℕ) → x is_in row → x not_in left' → Dec (x ≡ j) → linked t x i ≡ true
     go x m f (yes q) = rw q e
     go x m f (no d) = g.past x m (sym (and_whole (left x)) ∙ ap (λ (b : Bool). left x && not b) (sym (ne_eqb x j d)) ∙ sym (p.rest x) ∙ f)
-
-pub mirrored_all : {t : List ℕ} {i : ℕ} {row left : Set} → Mirroring t i row left → ((x : ℕ) → x not_in left) → MirroredRow t i row true
-mirrored_all g z = record { each = λ _ j m. g.past j m (z j); one = λ e. never true refl e }
 
 pub mirrored_one : {t : List ℕ} {i j : ℕ} {row left : Set} → Mirroring t i row left → j is_in left → linked t j i ≡ false → MirroredRow t i row false
 mirrored_one {j = j} g m f = record { each = λ e. never false e refl; one = λ _. (j, g.mine j m, f) }
