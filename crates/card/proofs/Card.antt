@@ -110,6 +110,11 @@ pub first_exit : {A : Type 0} (ts us : List Test) (reply : Result A Refusal) (r 
 first_exit ts us (Ok x) r i f = elim i [ ]
 first_exit ts us (Err e) r i f = first_stop ts us e (rw i f)
 
+-- what is returned there
+pub exit_is : {A : Type 0} (reply : Result A Refusal) (r : Refusal) → IsErrAnd reply (λ e. e ≡ r) → reply ≡ Err r
+exit_is (Ok x) r i = elim i [ ]
+exit_is (Err e) r i = ap Err i
+
 -- what `and` makes of two tests
 pub first_and : {A B : Type 0} (ts us : List Test) (a : Result A Refusal) (b : Result B Refusal) → Numbered ts → FirstFailing ts (number_of a) → FirstFailing us (number_of b)
     → FirstFailing (ts ++ us) (number_of (result_and a b))

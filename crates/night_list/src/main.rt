@@ -24,10 +24,8 @@ fn read_full<R: Read>(input: &mut R, bytes: &mut [u8]) -> io::Result<usize>
 
 // The page of a survey, in one write where the system takes it whole.
 fn print<W: Write>(output: &mut W, survey: &[u8], page: &mut [u8]) -> io::Result<()> {
-    match page::night_list(survey, page) {
-        Ok(length) => output.write_all(&page[..length]),
-        Err(_) => Ok(()),
-    }
+    let length = page::night_list(survey, page).unwrap_or(0);
+    output.write_all(&page[..length])
 }
 
 // At most 33,802 bytes are read: a longer survey is no survey, and has one byte too many here too.

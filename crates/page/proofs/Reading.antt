@@ -1,10 +1,10 @@
 -- From what the reader replied to the page.
 use mathlib.Core.List.{List, ◌++◌}
 use mathlib.Core.Logic.{inl, inr}
-use mathlib.Core.Path.{◌≡◌, refl, sym, ◌∙◌, ap, subst, subst₂}
+use mathlib.Core.Path.{◌≡◌, refl, sym, ◌∙◌, subst₂}
 use Prim.Native.Nat.{ℕ, zero, suc, ◌+◌, ◌*◌, ◌<◌, ◌≤◌}
 use native.Mathlib.Omega.{arith}
-use lib.ListN.{length, take, drop}
+use lib.ListN.{length, take}
 use Rattle.std.specs.Prelude.{Ok, Err}
 use Rattle.card.specs.Card.{FirstFailing, number}
 use Rattle.card.specs.declared.Refusal.{Refusal}
@@ -15,7 +15,7 @@ use Rattle.reader.specs.Reply.{Reads}
 use Rattle.lines.specs.Lines.{first_line, last_line, refused_line}
 use Rattle.lines.specs.Sheets.{Room, Put}
 use Rattle.lines.specs.declared.Sheet.{Sheet}
-use Rattle.page.specs.Page.{survey_order, Page, refused, listed}
+use Rattle.page.specs.Page.{survey_order, refused, listed}
 use Rattle.page.specs.Steps.{SurveyPut, PagePut}
 
 -- with room for 256 serials and 1,024 words, 14 is never given

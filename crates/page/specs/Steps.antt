@@ -3,7 +3,7 @@
 --   LevelsPut        after the lines of all levels
 --   SurveyPut        after the page of an accepted survey
 --   PagePut          after the whole page
-use Rattle.std.specs.Prelude.{List, ◌++◌, ◌≡◌, ℕ, zero, suc, ◌+◌, ◌*◌, ◌≤◌, length}
+use Rattle.std.specs.Prelude.{List, ◌++◌, ℕ, zero, suc, ◌+◌, ◌*◌, ◌≤◌, length}
 use Rattle.stations.specs.Sets.{size}
 use Rattle.mesh.specs.Table.{linked}
 use Rattle.mesh.proofs.Bound.{total}

@@ -11,7 +11,6 @@ ghost use Rattle.page.specs.Steps.{levels_room, Fit, LevelPut, LevelsPut, Survey
 
 use card::{Mesh, Refusal};
 use lines::Sheet;
-use reader::Heading;
 use stations::StationSet;
 
 // An accepted survey, as the reader leaves it.
@@ -73,20 +72,17 @@ fn print(survey: &[u8], sheet: &mut Sheet)
     let mut serials = [0; 256];
     let mut table = [0; 1024];
     match reader::read(survey, &mut serials, &mut table) {
-        Ok(Heading {
-            version,
-            stations,
-            links,
-        }) => {
+        Ok(heading) => {
+            let n = heading.stations;
             let mesh = Mesh {
-                n: stations,
-                table: &table[..stations * 4],
+                n,
+                table: &table[..n * 4],
             };
             let survey = Survey {
-                version,
-                links,
+                version: heading.version,
+                links: heading.links,
                 mesh,
-                serials: &serials[..stations],
+                serials: &serials[..n],
             };
             survey.print(sheet);
         }

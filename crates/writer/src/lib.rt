@@ -12,9 +12,9 @@ mod put;
 pub fn write(n: usize, serials: &[u32], table: &[u64], bytes: &mut [u8]) -> Result<usize, Refusal>
     ensures { Writes n serials.now table.now bytes.old bytes.new result }
 {
-    judge::test_survey(n, serials, table, bytes.len())?;
-    let m = judge::count_links(table, n);
+    let mesh = judge::test_survey(n, serials, table, bytes.len())?;
+    let m = judge::count_links(mesh);
     let length = 9 + n * 4 + m * 4;
-    put::put_file(n, m, serials, table, &mut bytes[..length]);
+    put::put_file(mesh, m, serials, &mut bytes[..length]);
     Ok(length)
 }

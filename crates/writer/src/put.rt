@@ -2,11 +2,11 @@
 ghost use Rattle.std.specs.Prelude.{◌≡◌, ◌+◌, ◌*◌, ◌<◌, ◌≤◌, length};
 ghost use Rattle.stations.specs.Sets.{size};
 ghost use Rattle.stations.specs.Words.{members};
-ghost use Rattle.mesh.specs.Table.{Table};
 ghost use Rattle.records.specs.Bytes.{short, Kept};
 ghost use Rattle.records.specs.Survey.{link_count};
 ghost use Rattle.writer.specs.Steps.{Put, HeadPut, SerialsPut, LinksPut, Ready, FilePut};
 
+use card::Mesh;
 use stations::StationSet;
 
 // The mark, the version and the two counts.
@@ -52,24 +52,24 @@ fn put_row(bytes: &mut [u8], at: usize, a: usize, row: StationSet) -> usize
     place
 }
 
-// Every link of the table.
-fn put_links(bytes: &mut [u8], at: usize, table: &[u64], n: usize) -> usize
-    requires { Table n table.now × (at + link_count n table.now * 4 ≤ length bytes.old) }
-    ensures { LinksPut n table.now at result bytes.old bytes.new }
+// Every link of the mesh.
+fn put_links(bytes: &mut [u8], at: usize, mesh: Mesh) -> usize
+    requires { at + link_count mesh.n mesh.table.now * 4 ≤ length bytes.old }
+    ensures { LinksPut mesh.entry.n mesh.entry.table.now at result bytes.old bytes.new }
 {
     let mut place = at;
-    for a in 0..n {
-        place = put_row(bytes, place, a, crate::judge::above(table, a));
+    for a in 0..mesh.n {
+        place = put_row(bytes, place, a, crate::judge::above(mesh, a));
     }
     place
 }
 
-// A whole file, into a buffer of exactly its length.
-pub(crate) fn put_file(n: usize, m: usize, serials: &[u32], table: &[u64], bytes: &mut [u8])
-    requires { Ready n m serials.now table.now (length bytes.old) }
-    ensures { FilePut n m serials.now table.now bytes.old bytes.new }
+// A whole file, of a mesh with m links, into a buffer of exactly its length.
+pub(crate) fn put_file(mesh: Mesh, m: usize, serials: &[u32], bytes: &mut [u8])
+    requires { Ready mesh.n m serials.now mesh.table.now (length bytes.old) }
+    ensures { FilePut mesh.entry.n m serials.now mesh.entry.table.now bytes.old bytes.new }
 {
-    put_head(bytes, n, m);
+    put_head(bytes, mesh.n, m);
     put_serials(bytes, serials);
-    put_links(bytes, 9 + n * 4, table, n);
+    put_links(bytes, 9 + mesh.n * 4, mesh);
 }

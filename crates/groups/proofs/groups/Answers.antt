@@ -5,9 +5,8 @@ use native.Mathlib.Omega.{arith}
 use lib.ListN.{length}
 use Rattle.stations.specs.Sets.{stations}
 use Rattle.stations.specs.Words.{members}
-use Rattle.std.proofs.lemmas.Result.{err_from_is_err_and}
 use Rattle.card.specs.Card.{FirstFailing, table_order, LEVEL, LIST_ROOM, ROWS}
-use Rattle.card.proofs.Card.{first_stop, first_go, table_numbered}
+use Rattle.card.proofs.Card.{exit_is, first_stop, first_go, table_numbered}
 use Rattle.groups.specs.Reply.{order}
 use Rattle.groups.proofs.Laws.{room_last, passed, asked, told, replied, refused_reply}
 use Rattle.groups.proofs.groups.Goals.{After-stations, In_ok-test_list_room}
@@ -16,23 +15,20 @@ use Rattle.groups.proofs.groups.Goals as goal
 pub returns-in_err-mesh : goal.returns-in_err-mesh
 returns-in_err-mesh c = let a = c.args in
     let w = length a.list.now in
-    let p = err_from_is_err_and c.from_residual.result c.from_residual.ensures.1 in
-    rw (p.1, p.2) (refused_reply a.n a.table.now a.k a.list.now _
+    rw (exit_is _ _ c.from_residual.ensures.1) (refused_reply a.n a.table.now a.k a.list.now _
     (first_stop (table_order a.n a.table.now) (LEVEL a.k ∷ LIST_ROOM a.n a.k w ∷ ROWS a.n a.table.now a.k ∷ []) _ c.in_err-mesh.ensures.refused))
 
 pub returns-in_err-test_level : goal.returns-in_err-test_level
 returns-in_err-test_level c = let a = c.args in
     let w = length a.list.now in
-    let p = err_from_is_err_and c.from_residual-in_err-test_level.result c.from_residual-in_err-test_level.ensures.1 in
-    rw (p.1, p.2) (refused_reply a.n a.table.now a.k a.list.now _
+    rw (exit_is _ _ c.from_residual-in_err-test_level.ensures.1) (refused_reply a.n a.table.now a.k a.list.now _
     (first_go (table_order a.n a.table.now) (LEVEL a.k ∷ LIST_ROOM a.n a.k w ∷ ROWS a.n a.table.now a.k ∷ []) _ (table_numbered a.n a.table.now) c.in_ok-mesh.ensures.refused
     (first_stop (LEVEL a.k ∷ []) (LIST_ROOM a.n a.k w ∷ ROWS a.n a.table.now a.k ∷ []) _ c.in_err-test_level.ensures)))
 
 pub returns-in_err-test_list_room : goal.returns-in_err-test_list_room
 returns-in_err-test_list_room c = let a = c.args in
     let w = length a.list.now in
-    let p = err_from_is_err_and c.from_residual-in_err-test_list_room.result c.from_residual-in_err-test_list_room.ensures.1 in
-    rw (p.1, p.2) (refused_reply a.n a.table.now a.k a.list.now _
+    rw (exit_is _ _ c.from_residual-in_err-test_list_room.ensures.1) (refused_reply a.n a.table.now a.k a.list.now _
     (first_go (table_order a.n a.table.now) (LEVEL a.k ∷ LIST_ROOM a.n a.k w ∷ ROWS a.n a.table.now a.k ∷ []) _ (table_numbered a.n a.table.now) c.in_ok-mesh.ensures.refused
     (first_go (LEVEL a.k ∷ []) (LIST_ROOM a.n a.k w ∷ ROWS a.n a.table.now a.k ∷ []) _ (omega arith, tt) c.in_ok-test_level.ensures
     (room_last a.n a.table.now a.k w _ c.in_err-test_list_room.ensures))))

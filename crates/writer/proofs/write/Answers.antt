@@ -4,21 +4,23 @@ use native.Mathlib.Omega.{arith}
 use lib.Dec.{lit<}
 use lib.ListN.{length, take, drop}
 use lib.Seq.{length-take-le}
+use Rattle.records.specs.Survey.{link_count}
 use Rattle.records.proofs.Fields.{front_below}
 use Rattle.writer.proofs.File.{survey_put}
 use Rattle.writer.proofs.Tests.{Passed, passed, refused_reply, written_reply}
-use Rattle.writer.proofs.write.Goals.{In_ok-test_survey, After-count_links-m}
+use Rattle.writer.proofs.write.Goals.{In_ok-mesh, After-count_links-m}
 use Rattle.writer.proofs.write.Goals as goal
 
 -- what is known once every test passed
-good : (c : In_ok-test_survey) → Passed c.args.n c.args.serials.now c.args.table.now (length c.args.bytes.now)
-good c = passed c.args.n c.args.serials.now c.args.table.now (length c.args.bytes.now) c.in_ok-test_survey.ensures
+good : (c : In_ok-mesh) → Passed c.args.n c.args.serials.now c.args.table.now (length c.args.bytes.now)
+good c = passed c.args.n c.args.serials.now c.args.table.now (length c.args.bytes.now) c.in_ok-mesh.ensures.tested
 
-pub returns-in_err-test_survey : goal.returns-in_err-test_survey
-returns-in_err-test_survey c = refused_reply _ _ _ _ _ _ c.from_residual.ensures.1 c.in_err-test_survey.ensures
+pub returns-in_err-mesh : goal.returns-in_err-mesh
+returns-in_err-mesh c = refused_reply _ _ _ _ _ _ c.from_residual.ensures.1 c.in_err-mesh.ensures.tested
 
-pub count_links-m-requires : goal.count_links-m-requires
-count_links-m-requires c = (good c).table
+-- how many links are counted
+counted : (c : After-count_links-m) → c.count_links-m.result ≡ link_count c.args.n c.args.table.now
+counted c = let m = c.in_ok-mesh.ensures.same in rw (m.0, m.1) at c.count_links-m.ensures.0
 
 -- what is known once the links are counted
 abbrev whole : After-count_links-m → ℕ
@@ -26,21 +28,23 @@ whole c = 9 + c.args.n * 4 + c.count_links-m.result * 4
 
 long : (c : After-count_links-m) → length (take (whole c) c.args.bytes.now) ≡ whole c
 long c =
-    let P = good (goal.at.After-count_links-m c).In_ok-test_survey in
-    length-take-le (whole c) c.args.bytes.now (omega (arith, c.count_links-m.ensures.0, P.fits))
+    let P = good (goal.at.After-count_links-m c).In_ok-mesh in
+    length-take-le (whole c) c.args.bytes.now (omega (arith, counted c, P.fits))
 
 pub put_file-requires : goal.put_file-requires
 put_file-requires c =
-    let P = good (goal.at.put_file-requires c).In_ok-test_survey in
-    record { table = P.table; all_serials = P.all_serials; counted = c.count_links-m.ensures.0; most = omega (arith, c.count_links-m.ensures.0, P.most); exact = long (goal.at.put_file-requires c).After-count_links-m }
+    let P = good (goal.at.put_file-requires c).In_ok-mesh in
+    let e = (goal.at.put_file-requires c).After-count_links-m in
+    let m = c.in_ok-mesh.ensures.same in
+    rw (m.0, m.1) record { all_serials = P.all_serials; counted = counted e; most = omega (arith, counted e, P.most); exact = long e }
 
 pub returns : goal.returns
 returns c =
     let e = (goal.at.returns c).After-count_links-m in
-    let P = good (goal.at.returns c).In_ok-test_survey in
+    let P = good (goal.at.returns c).In_ok-mesh in
     let s = c.args in
-    let F = c.put_file.ensures in
-    let counted = c.count_links-m.ensures in
-    written_reply s.n s.serials.now s.table.now s.bytes.now _ (whole e) c.in_ok-test_survey.ensures (F.head.whole ∙ long e) (ap (λ (k : ℕ). 9 + s.n * 4 + k * 4) counted.0)
-    (survey_put _ P.table F.links_are c.count_links-m.result P.most counted.0 P.all_serials P.serials_good counted.2
+    let m = c.in_ok-mesh.ensures.same in
+    let F = rw (m.0, m.1) at c.put_file.ensures in
+    written_reply s.n s.serials.now s.table.now s.bytes.now _ (whole e) c.in_ok-mesh.ensures.tested (F.head.whole ∙ long e) (ap (λ (k : ℕ). 9 + s.n * 4 + k * 4) (counted e))
+    (survey_put _ P.table F.links_are c.count_links-m.result P.most (counted e) P.all_serials P.serials_good (λ i. (c.type_inv.table i).fits)
     (front_below 256 (lit< tt) c.put_file.new.bytes (drop (whole e) s.bytes.now) (λ i. (c.type_inv.bytes i).fits)) F.head (F.head.whole ∙ long e) F.serials_are)
