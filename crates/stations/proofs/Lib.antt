@@ -5,7 +5,6 @@ pub mod Order
 pub mod Bit
 pub mod Ones
 pub mod Laws
-pub mod Walk
 pub mod Popping
 pub mod Replies
 pub mod OnlyOne
