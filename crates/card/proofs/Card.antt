@@ -9,11 +9,13 @@ use native.Mathlib.Decide.{ℕ_discrete}
 use lib.Dec.{eqb}
 use lib.ListN.{length}
 use Rattle.stations.proofs.Bools.{never}
+use Rattle.std.specs.Prelude.{Result, Ok, Err}
+use Rattle.std.specs.Result.{IsErrAnd, result_and}
 use Rattle.mesh.specs.Table.{linked, Table, Fault, self_link, one_sided, from_n_up}
 use Rattle.mesh.proofs.NeverMore.{never_more}
 use Rattle.card.specs.declared.Refusal.{Refusal}
 use Rattle.card.specs.declared.Refusal.TheVariants.{Level, Stations, TableLength, ListRoom, Set, Station, Mark, Version, Count, Length, Serial, Link, Room, Rows}
-use Rattle.card.specs.Card.{number, Test, FirstFailing, LEVEL, table_order, ROWS}
+use Rattle.card.specs.Card.{number, number_of, Test, FirstFailing, LEVEL, table_order, ROWS}
 use Rattle.card.proofs.TableTest.{accepted}
 
 -- two numbers that are both that of the first failing test are the same
@@ -101,6 +103,23 @@ pub first_stop : (ts us : List Test) (r : Refusal) → FirstFailing ts (number r
 first_stop [] us r p = absurd (number_above r p)
 first_stop (t ∷ ts) us r (inl p) = inl p
 first_stop (t ∷ ts) us r (inr p) = inr (p.0, first_stop ts us r p.1)
+
+-- the exit of a `?`: the reply is the refusal of the tests ts
+pub first_exit : {A : Type 0} (ts us : List Test) (reply : Result A Refusal) (r : Refusal) → IsErrAnd reply (λ e. e ≡ r) → FirstFailing ts (number r)
+    → FirstFailing (ts ++ us) (number_of reply)
+first_exit ts us (Ok x) r i f = elim i [ ]
+first_exit ts us (Err e) r i f = first_stop ts us e (rw i f)
+
+-- what is returned there
+pub exit_is : {A : Type 0} (reply : Result A Refusal) (r : Refusal) → IsErrAnd reply (λ e. e ≡ r) → reply ≡ Err r
+exit_is (Ok x) r i = elim i [ ]
+exit_is (Err e) r i = ap Err i
+
+-- what `and` makes of two tests
+pub first_and : {A B : Type 0} (ts us : List Test) (a : Result A Refusal) (b : Result B Refusal) → Numbered ts → FirstFailing ts (number_of a) → FirstFailing us (number_of b)
+    → FirstFailing (ts ++ us) (number_of (result_and a b))
+first_and ts us (Ok x) b m p q = first_go ts us (number_of b) m p q
+first_and ts us (Err r) b m p q = first_stop ts us r p
 
 -- the tests of a table are numbered, and a table that passes them is an accepted one
 pub table_numbered : (n : ℕ) (t : List ℕ) → Numbered (table_order n t)

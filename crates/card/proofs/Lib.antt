@@ -1,2 +1,3 @@
 pub mod TableTest
+pub mod AnyOf
 pub mod Card

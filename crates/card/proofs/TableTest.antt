@@ -21,10 +21,6 @@ use Rattle.mesh.specs.Table.{linked, Table, Fault, self_link, one_sided, from_n_
 use Rattle.card.specs.Tests.{MirroredRow, RowFault}
 use Rattle.card.specs.Card.{Says, FirstFailing, SET}
 use Rattle.mesh.specs.Mesh.{Mesh}
-use Rattle.std.specs.Prelude.{HoldsAt}
-use Rattle.std.specs.List.{range_with_len, AllWithin}
-use Rattle.std.specs.Bool.{MatchBool}
-use Rattle.std.proofs.lemmas.List.FromFn.{length-range_with_len, get_or-range_with_len}
 
 -- ---- the code's reading of one bit of the table
 pub linked_yes : (t : List ℕ) (v i : ℕ) → i < 256 → bit_and (get_or t (v * 4 + i / 64) 0 / 2 ^ (i % 64)) 1 ≡ 1 → linked t v i ≡ true
@@ -90,19 +86,11 @@ no_fault n t h (one_sided a b l m e o) = h a l (inr (b, e, inr o))
 no_fault n t h (from_n_up a b l g e) = h a l (inr (b, e, inl g))
 
 -- some row has a fault, or none of the n rows has
-pub rows_told : (n : ℕ) (t : List ℕ) (r : Bool)
-    → MatchBool r ((k : ℕ) × (k < length (range_with_len 0 n)) × HoldsAt (RowFault n t) (range_with_len 0 n) k) (AllWithin (λ a. ¬ RowFault n t a) (range_with_len 0 n) 0 (length (range_with_len 0 n)))
-    → Says (Fault n t) r
-rows_told n t true (k, l, h) =
-    let m : k < n = omega (arith, length-range_with_len 0 n) in
-    let e : get_or (range_with_len 0 n) k 0 ≡ k = omega (arith, get_or-range_with_len 0 n k 0 m) in
-    record { yes_so = λ _. fault_of n t k m (rw e at (h 0)); not_so = λ f. never true refl f }
-rows_told n t false h = record { yes_so = λ e. never false e refl; not_so = λ _. no_fault n t none }
-  where
-    none : (a : ℕ) → a < n → ¬ RowFault n t a
-    none a l =
-        let e : get_or (range_with_len 0 n) a 0 ≡ a = omega (arith, get_or-range_with_len 0 n a 0 l) in
-        rw e at (h a 0 (omega arith) (omega (arith, length-range_with_len 0 n)))
+pub rows_told : (n : ℕ) (t : List ℕ) (r : Bool) → Says ((a : ℕ) × (a < n) × RowFault n t a) r → Says (Fault n t) r
+rows_told n t r s = record {
+  yes_so = λ e. let (a, l, f) = s.yes_so e in fault_of n t a l f;
+  not_so = λ e. no_fault n t (λ a l f. s.not_so e (a, l, f));
+}
 
 -- ---- an accepted table
 past_row : (n : ℕ) (t : List ℕ) (a b : ℕ) → length t ≡ n * 4 → n ≤ a → linked t a b ≡ false

@@ -8,7 +8,7 @@ use lib.ListN.{length}
 use Rattle.stations.specs.Sets.{Set, one_if}
 use Rattle.stations.proofs.Laws.{Wide, members_same}
 use Rattle.stations.proofs.OnlyOne.{order_only_one}
-use Rattle.routes.specs.declared.Answer as routed
+use Rattle.card.specs.Card.{number_of}
 use Rattle.routes.specs.Reply as routes
 use Rattle.routes.proofs.OnlyOne.{routes_only_one}
 use Rattle.holding.specs.Reply as holding
@@ -38,8 +38,8 @@ first_row_desk_only_one x y r w r' w' p q = (
 pub routes_desk_only_one : (n : ℕ) (t : List ℕ) (a b r j c r' j' c' : ℕ) → RoutesDesk n t a b r j c → RoutesDesk n t a b r' j' c' → (r ≡ r') × (j ≡ j') × (c ≡ c')
 routes_desk_only_one n t a b r j c r' j' c' p q =
     let e = routes_only_one n t a b p.answer q.answer p.replies q.replies in (
-      p.number ∙ ap routes.number e ∙ sym q.number,
-      p.linked_pair ∙ ap (λ (x : routed.Answer). one_if (routes.joined x)) e ∙ sym q.linked_pair,
+      p.number ∙ ap number_of e ∙ sym q.number,
+      p.linked_pair ∙ ap (λ (x : routes.Reply). one_if (routes.joined x)) e ∙ sym q.linked_pair,
       p.counted ∙ ap routes.count e ∙ sym q.counted,
     )
 
@@ -57,30 +57,30 @@ holding_desk_only_one n t k s r v w0 w1 w2 w3 r' v' w0' w1' w2' w3' p q a b =
 pub verdict_desk_only_one : (n : ℕ) (t : List ℕ) (k : ℕ) (s : List ℕ) (r v r' v' : ℕ) → VerdictDesk n t k s r v → VerdictDesk n t k s r' v' → (r ≡ r') × (v ≡ v')
 verdict_desk_only_one n t k s r v r' v' p q =
     let e = judged_only_one n t k s p.brief q.brief p.replies q.replies in
-    (p.number ∙ ap holding.brief_number e ∙ sym q.number, p.told ∙ ap holding.brief_verdict e ∙ sym q.told)
+    (p.number ∙ ap number_of e ∙ sym q.number, p.told ∙ ap holding.verdict e ∙ sym q.told)
 
 -- the words of a list are words of 64 bits (Wide), which their type says
 pub list_desk_only_one : (n : ℕ) (t : List ℕ) (k : ℕ) (l a b : List ℕ) (r g r' g' : ℕ) → Wide a → Wide b → ListDesk n t k l a r g → ListDesk n t k l b r' g'
     → (r ≡ r') × (g ≡ g') × (a ≡ b)
 list_desk_only_one n t k l a b r g r' g' wa wb p q =
     let (e, f) = list_only_one n t k l a b wa wb p.answer q.answer p.replies q.replies in
-    (p.number ∙ ap groups.number e ∙ sym q.number, p.counted ∙ ap groups.count e ∙ sym q.counted, f)
+    (p.number ∙ ap number_of e ∙ sym q.number, p.counted ∙ ap groups.count e ∙ sym q.counted, f)
 
 pub station_desk_only_one : (n : ℕ) (t : List ℕ) (a r s r' s' : ℕ) → StationDesk n t a r s → StationDesk n t a r' s' → (r ≡ r') × (s ≡ s')
 station_desk_only_one n t a r s r' s' p q =
     let e = station_only_one n t a p.answer q.answer p.replies q.replies in
-    (p.number ∙ ap standings.number e ∙ sym q.number, p.stands ∙ ap standings.level e ∙ sym q.stands)
+    (p.number ∙ ap number_of e ∙ sym q.number, p.stands ∙ ap standings.level e ∙ sym q.stands)
 
 pub pair_desk_only_one : (n : ℕ) (t : List ℕ) (a b r s r' s' : ℕ) → PairDesk n t a b r s → PairDesk n t a b r' s' → (r ≡ r') × (s ≡ s')
 pair_desk_only_one n t a b r s r' s' p q =
     let e = pair_only_one n t a b p.answer q.answer p.replies q.replies in
-    (p.number ∙ ap standings.number e ∙ sym q.number, p.stands ∙ ap standings.level e ∙ sym q.stands)
+    (p.number ∙ ap number_of e ∙ sym q.number, p.stands ∙ ap standings.level e ∙ sym q.stands)
 
 pub read_desk_only_one : (bs serials table s t s' t' : List ℕ) (r v n l r' v' n' l' : ℕ) → ReadDesk bs serials table s t r v n l → ReadDesk bs serials table s' t' r' v' n' l'
     → (r ≡ r') × (v ≡ v') × (n ≡ n') × (l ≡ l') × (s ≡ s') × (t ≡ t')
 read_desk_only_one bs serials table s t s' t' r v n l r' v' n' l' p q =
     let (e, f, g) = reader_only_one bs serials table s t s' t' p.answer q.answer p.replies q.replies in (
-      p.number ∙ ap reader.number e ∙ sym q.number,
+      p.number ∙ ap number_of e ∙ sym q.number,
       p.of_version ∙ ap reader.version e ∙ sym q.of_version,
       p.of_stations ∙ ap reader.stations e ∙ sym q.of_stations,
       p.of_links ∙ ap reader.links e ∙ sym q.of_links,
@@ -91,9 +91,9 @@ read_desk_only_one bs serials table s t s' t' r v n l r' v' n' l' p q =
 pub write_desk_only_one : (n : ℕ) (serials table bs b b' : List ℕ) (r l r' l' : ℕ) → WriteDesk n serials table bs b r l → WriteDesk n serials table bs b' r' l' → (r ≡ r') × (l ≡ l') × (b ≡ b')
 write_desk_only_one n serials table bs b b' r l r' l' p q =
     let (e, f) = writer_only_one n serials table bs b b' p.answer q.answer p.replies q.replies in
-    (p.number ∙ ap writer.number e ∙ sym q.number, p.of_length ∙ ap writer.file_length e ∙ sym q.of_length, f)
+    (p.number ∙ ap number_of e ∙ sym q.number, p.of_length ∙ ap writer.file_length e ∙ sym q.of_length, f)
 
 pub page_desk_only_one : (bs p a b : List ℕ) (r l r' l' : ℕ) → PageDesk bs p a r l → PageDesk bs p b r' l' → (r ≡ r') × (l ≡ l') × (a ≡ b)
 page_desk_only_one bs p a b r l r' l' x y =
     let (e, f) = night_list_only_one bs p a b x.answer y.answer x.replies y.replies in
-    (x.number ∙ ap page.number e ∙ sym y.number, x.of_length ∙ ap page.page_length e ∙ sym y.of_length, f)
+    (x.number ∙ ap number_of e ∙ sym y.number, x.of_length ∙ ap page.page_length e ∙ sym y.of_length, f)

@@ -1,26 +1,20 @@
 -- What each exported question says: the reply of the question itself, in the numbers of the rules. And what it means that a question refuses (Refuses).
-use Rattle.std.specs.Prelude.{List, [], ◌∷◌, ◌≡◌, ℕ, zero, suc, length, take}
+use Rattle.std.specs.Prelude.{Result, List, [], ◌∷◌, ◌≡◌, ℕ, zero, suc, length, take}
 use Rattle.std.specs.Borrow.{Bor}
 use Rattle.stations.specs.Sets.{one_if, Before}
 use Rattle.stations.specs.Words.{has}
 use Rattle.stations.specs.Answers.{FirstRow}
-use Rattle.card.specs.Card.{Test, FirstFailing}
-use Rattle.routes.specs.declared.Answer as routed
+use Rattle.card.specs.declared.Refusal.{Refusal}
+use Rattle.card.specs.Card.{number_of, Test, FirstFailing}
 use Rattle.routes.specs.Reply as routes
-use Rattle.holding.specs.declared.Answer as held
-use Rattle.holding.specs.declared.Brief as briefly
 use Rattle.holding.specs.Reply as holding
-use Rattle.groups.specs.declared.Answer as grouped
 use Rattle.groups.specs.Reply as groups
 use Rattle.mesh.specs.Standing.{Standing, PairStanding}
 use Rattle.mesh.specs.Table.{linked}
-use Rattle.standings.specs.declared.Answer as stood
 use Rattle.standings.specs.Reply as standings
-use Rattle.reader.specs.declared.ReadAnswer.{ReadAnswer}
+use Rattle.reader.specs.declared.Heading.{Heading}
 use Rattle.reader.specs.Reply as reader
-use Rattle.writer.specs.declared.WriteAnswer.{WriteAnswer}
 use Rattle.writer.specs.Reply as writer
-use Rattle.page.specs.declared.PageAnswer.{PageAnswer}
 use Rattle.page.specs.Reply as page
 
 -- r is the number of the first failing test of the order, 0 where none fails; and a refusal leaves things so
@@ -48,65 +42,65 @@ pub record FirstRowDesk (x y : Bor (List ℕ)) (r words : ℕ) : Type 0 where
 
 -- the routes question
 pub record RoutesDesk (n : ℕ) (t : List ℕ) (a b r joined count : ℕ) : Type 0 where
-  pub answer : routed.Answer
+  pub answer : routes.Reply
   pub replies : routes.Replies n t a b answer
-  pub number : r ≡ routes.number answer
+  pub number : r ≡ number_of answer
   pub linked_pair : joined ≡ one_if (routes.joined answer)
   pub counted : count ≡ routes.count answer
 
 -- the holding question
 pub record HoldingDesk (n : ℕ) (t : List ℕ) (k : ℕ) (s : List ℕ) (r verdict w0 w1 w2 w3 : ℕ) : Type 0 where
-  pub answer : held.Answer
+  pub answer : holding.Full
   pub replies : holding.Replies n t k s answer
-  pub number : r ≡ holding.number answer
+  pub number : r ≡ number_of answer
   pub told : verdict ≡ holding.verdict answer
   pub weak : (x : ℕ) → has (w0 ∷ w1 ∷ w2 ∷ w3 ∷ []) x ≡ holding.weak_set answer x
 
 -- the verdict alone
 pub record VerdictDesk (n : ℕ) (t : List ℕ) (k : ℕ) (s : List ℕ) (r verdict : ℕ) : Type 0 where
-  pub brief : briefly.Brief
+  pub brief : holding.Brief
   pub replies : holding.Judges n t k s brief
-  pub number : r ≡ holding.brief_number brief
-  pub told : verdict ≡ holding.brief_verdict brief
+  pub number : r ≡ number_of brief
+  pub told : verdict ≡ holding.verdict brief
 
 -- the list question; l is the list before, l' the list after
 pub record ListDesk (n : ℕ) (t : List ℕ) (k : ℕ) (l l' : List ℕ) (r count : ℕ) : Type 0 where
-  pub answer : grouped.Answer
+  pub answer : groups.Answer
   pub replies : groups.Replies n t k l l' answer
-  pub number : r ≡ groups.number answer
+  pub number : r ≡ number_of answer
   pub counted : count ≡ groups.count answer
 
 -- standings
 pub record StationDesk (n : ℕ) (t : List ℕ) (a r standing : ℕ) : Type 0 where
-  pub answer : stood.Answer
+  pub answer : standings.Answer
   pub replies : standings.Replies (standings.station_order n t a) (Standing (linked t) n a) answer
-  pub number : r ≡ standings.number answer
+  pub number : r ≡ number_of answer
   pub stands : standing ≡ standings.level answer
 
 pub record PairDesk (n : ℕ) (t : List ℕ) (a b r standing : ℕ) : Type 0 where
-  pub answer : stood.Answer
+  pub answer : standings.Answer
   pub replies : standings.Replies (standings.pair_order n t a b) (PairStanding (linked t) n a b) answer
-  pub number : r ≡ standings.number answer
+  pub number : r ≡ number_of answer
   pub stands : standing ≡ standings.level answer
 
 -- survey files; a ' marks what a lent buffer has afterwards
 pub record ReadDesk (bs serials table serials' table' : List ℕ) (r version n links : ℕ) : Type 0 where
-  pub answer : ReadAnswer
+  pub answer : Result Heading Refusal
   pub replies : reader.Reads bs serials table serials' table' answer
-  pub number : r ≡ reader.number answer
+  pub number : r ≡ number_of answer
   pub of_version : version ≡ reader.version answer
   pub of_stations : n ≡ reader.stations answer
   pub of_links : links ≡ reader.links answer
 
 pub record WriteDesk (n : ℕ) (serials table bs bs' : List ℕ) (r length : ℕ) : Type 0 where
-  pub answer : WriteAnswer
+  pub answer : Result ℕ Refusal
   pub replies : writer.Writes n serials table bs bs' answer
-  pub number : r ≡ writer.number answer
+  pub number : r ≡ number_of answer
   pub of_length : length ≡ writer.file_length answer
 
 -- the night list; p is the buffer before, p' the buffer after
 pub record PageDesk (bs p p' : List ℕ) (r length : ℕ) : Type 0 where
-  pub answer : PageAnswer
+  pub answer : Result ℕ Refusal
   pub replies : page.Prints bs p p' answer
-  pub number : r ≡ page.number answer
+  pub number : r ≡ number_of answer
   pub of_length : length ≡ page.page_length answer

@@ -2,10 +2,14 @@
 // returns the refusal's number, 0 where the question is answered; the numbers lent for the reply are always written.
 #![tactic(auto)]
 
-ghost use Rattle.std.specs.Prelude.{◌≡◌};
+ghost use Rattle.std.specs.Prelude.{◌≡◌, ℕ};
+ghost use Rattle.stations.specs.Words.{members};
+ghost use Rattle.holding.specs.Reply.{weak_set};
 ghost use Rattle.desk.specs.Desk.{FirstRowDesk, RoutesDesk, HoldingDesk, VerdictDesk, ListDesk, StationDesk, PairDesk, ReadDesk, WriteDesk, PageDesk};
 
+use card::Refusal;
 use stations::StationSet;
+use verdicts::Verdict;
 
 // The order question: 0 where the first row comes first, 1 where the second does. The reply is the first `words` words of that row: all four, or
 // none where one of the two rows hasn't four words.
@@ -23,7 +27,7 @@ pub extern "C" fn desk_first_row(x: &[u64], y: &[u64], words: &mut u64) -> u64
     *words = 4;
     let mine = StationSet::of_row(x, 0);
     let theirs = StationSet::of_row(y, 0);
-    if theirs.before(mine) { 1 } else { 0 }
+    u64::from(theirs.before(mine))
 }
 
 // The routes question: 1 in `joined` for a linked pair, else the number of separate routes in `count`.
@@ -38,10 +42,23 @@ pub extern "C" fn desk_routes(
 ) -> u64
     ensures { RoutesDesk n table.now a b result joined.new count.new }
 {
-    let answer = routes::routes(n, table, a, b);
-    *joined = answer.joined();
-    *count = answer.count();
-    answer.number()
+    let reply = routes::routes(n, table, a, b);
+    (*joined, *count) = match reply {
+        Ok(routes::Answer::Counted(c)) => (0, c as u64),
+        Ok(routes::Answer::Joined) => (1, 0),
+        Err(_) => (0, 0),
+    };
+    card::number_of(&reply)
+}
+
+// The weak set of a reply, or the empty set.
+fn weak_set(reply: Result<Verdict<StationSet>, Refusal>) -> StationSet
+    ensures { (x : ℕ) → members result x ≡ weak_set reply x }
+{
+    match reply {
+        Ok(Verdict::Weak(s)) => s,
+        _ => StationSet::empty(),
+    }
 }
 
 // The holding question: 0 for HOLDS, 1 for FEW, 2 for WEAK in `verdict`, and the four words of the weak set, 0 where there is none.
@@ -59,14 +76,14 @@ pub extern "C" fn desk_holding(
 ) -> u64
     ensures { HoldingDesk n table.now k set.now result verdict.new w0.new w1.new w2.new w3.new }
 {
-    let answer = holding::holding(n, table, k, set);
-    *verdict = answer.verdict();
-    let weak = answer.weak_set();
+    let reply = holding::holding(n, table, k, set);
+    *verdict = holding::verdict_of(&reply);
+    let weak = weak_set(reply);
     *w0 = weak.a;
     *w1 = weak.b;
     *w2 = weak.c;
     *w3 = weak.d;
-    answer.number()
+    card::number_of(&reply)
 }
 
 // The holding question for the verdict alone: 0 for HOLDS, 1 for FEW, 2 for WEAK.
@@ -80,9 +97,9 @@ pub extern "C" fn desk_verdict(
 ) -> u64
     ensures { VerdictDesk n table.now k set.now result verdict.new }
 {
-    let brief = holding::judged(n, table, k, set);
-    *verdict = brief.verdict();
-    brief.number()
+    let reply = holding::judged(n, table, k, set);
+    *verdict = holding::verdict_of(&reply);
+    card::number_of(&reply)
 }
 
 // The list question: the number of groups in `groups`, and the groups in the list.
@@ -96,9 +113,9 @@ pub extern "C" fn desk_list(
 ) -> u64
     ensures { ListDesk n table.now k list.old list.new result groups.new }
 {
-    let answer = groups::groups(n, table, k, list);
-    *groups = answer.count();
-    answer.number()
+    let reply = groups::groups(n, table, k, list);
+    *groups = reply.unwrap_or(0) as u64;
+    card::number_of(&reply)
 }
 
 // The standing of a station.
@@ -111,9 +128,9 @@ pub extern "C" fn desk_station_standing(
 ) -> u64
     ensures { StationDesk n table.now a result standing.new }
 {
-    let answer = standings::station_standing(n, table, a);
-    *standing = answer.level();
-    answer.number()
+    let reply = standings::station_standing(n, table, a);
+    *standing = reply.unwrap_or(0) as u64;
+    card::number_of(&reply)
 }
 
 // The standing of a pair.
@@ -127,9 +144,9 @@ pub extern "C" fn desk_pair_standing(
 ) -> u64
     ensures { PairDesk n table.now a b result standing.new }
 {
-    let answer = standings::pair_standing(n, table, a, b);
-    *standing = answer.level();
-    answer.number()
+    let reply = standings::pair_standing(n, table, a, b);
+    *standing = reply.unwrap_or(0) as u64;
+    card::number_of(&reply)
 }
 
 // The reader of survey files: n serials and 4n table words, and the version, n and the number of links.
@@ -144,11 +161,12 @@ pub extern "C" fn desk_read(
 ) -> u64
     ensures { ReadDesk bytes.now serials.old table.old serials.new table.new result version.new n.new links.new }
 {
-    let answer = reader::read(bytes, serials, table);
-    *version = answer.version() as u64;
-    *n = answer.stations() as u64;
-    *links = answer.links() as u64;
-    answer.number()
+    let reply = reader::read(bytes, serials, table);
+    (*version, *n, *links) = match reply {
+        Ok(heading) => (heading.version as u64, heading.stations as u64, heading.links as u64),
+        Err(_) => (0, 0, 0),
+    };
+    card::number_of(&reply)
 }
 
 // The writer of survey files: the file's length in `length`.
@@ -162,9 +180,9 @@ pub extern "C" fn desk_write(
 ) -> u64
     ensures { WriteDesk n serials.now table.now bytes.old bytes.new result length.new }
 {
-    let answer = writer::write(n, serials, table, bytes);
-    *length = answer.file_length() as u64;
-    answer.number()
+    let written = writer::write(n, serials, table, bytes);
+    *length = written.unwrap_or(0) as u64;
+    card::number_of(&written)
 }
 
 // The night list: the page of a survey, as bytes in the lent buffer, and their number in `length`.
@@ -172,7 +190,7 @@ pub extern "C" fn desk_write(
 pub extern "C" fn desk_night_list(survey: &[u8], page: &mut [u8], length: &mut u64) -> u64
     ensures { PageDesk survey.now page.old page.new result length.new }
 {
-    let answer = page::night_list(survey, page);
-    *length = answer.page_length() as u64;
-    answer.number()
+    let printed = page::night_list(survey, page);
+    *length = printed.unwrap_or(0) as u64;
+    card::number_of(&printed)
 }

@@ -1,3 +1,4 @@
+pub mod Marks
 pub mod Way
 pub mod Sweeping
 pub mod Outcome

@@ -15,12 +15,16 @@ fn choose(todo: StationSet, ends: StationSet) -> Option<usize>
     todo.cut(ends).first().or_else(|| todo.first())
 }
 
-// Stores g at the stations of s.
+// Stores g at the stations of s, a word at a time: no other loop of a search runs as often.
 fn mark(from: &mut [u8; 256], s: StationSet, g: u8)
     ensures { Marked from.old (members s) g from.new }
 {
-    for j in s {
-        from[j] = g;
+    for (i, word) in [s.a, s.b, s.c, s.d].iter().enumerate() {
+        let mut x = *word;
+        while x != 0 {
+            from[i * 64 + stations::low_bit(x)] = g;
+            x &= x - 1;
+        }
     }
 }
 

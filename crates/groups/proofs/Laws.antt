@@ -1,8 +1,9 @@
 -- From the tests that passed to what the listing asks, and from what it leaves, within all stations, to the reply. And a row asked about where it
 -- stands: a part of four words is the row.
-use mathlib.Core.List.{List, [], ◌∷◌, ◌++◌}
+use mathlib.Core.List.{List, [], ◌∷◌}
 use mathlib.Core.Logic.{inl, inr}
 use mathlib.Core.Path.{◌≡◌, refl, sym, ◌∙◌, ap, subst, fun_ext}
+use Rattle.std.proofs.Common.{Ok, Err}
 use Prim.Native.Nat.{ℕ, suc, ◌+◌, ◌-◌, ◌*◌, ◌<◌, ◌≤◌}
 use native.Mathlib.Decide.{dec_lt, ℕ_discrete}
 use native.Mathlib.Omega.{arith}
@@ -13,34 +14,38 @@ use Rattle.stations.specs.Sets.{Set, stations, size}
 use Rattle.stations.specs.Words.{members}
 use Rattle.stations.specs.declared.StationSet.{StationSet}
 use Rattle.stations.proofs.Counting.{size_past, size-stations}
-use Rattle.mesh.specs.Mesh.{R}
+use Rattle.mesh.specs.Mesh.{Listed, R}
 use Rattle.mesh.specs.Table.{linked, Table}
 use Rattle.card.specs.declared.Refusal.{Refusal}
-use Rattle.card.specs.Card.{FirstFailing, earlier, table_order, LEVEL, LIST_ROOM, ROWS}
-use Rattle.card.proofs.Card.{Passes, first_then, table_numbered, table_passed, number_above, rows_pass}
+use Rattle.card.specs.Card.{FirstFailing, number, LEVEL, LIST_ROOM, ROWS}
+use Rattle.card.proofs.Card.{Passes, table_passed, number_above, rows_pass}
 use Rattle.card.proofs.TableTest.{table_mesh}
-use Rattle.holding.specs.declared.Answer as holding_answer
 use Rattle.holding.specs.Reply as holding
 use Rattle.listing.specs.List.{set_at, ListedIn, Asked, Listing}
 use Rattle.listing.proofs.Ending.{listed_groups}
-use Rattle.groups.specs.declared.Answer.TheVariants.{Groups, Refused}
 use Rattle.groups.specs.Reply.{order, Replies, RowReplies}
-use Rattle.groups.specs.Steps.{Accepted, Says}
 
--- the tests one after the other; 15 never fails, so it needs no test
-pub ordered : (n : ℕ) (t : List ℕ) (k words : ℕ) (p q u v r : ℕ) → FirstFailing (table_order n t) p → FirstFailing (LEVEL k ∷ []) q
-    → FirstFailing (LIST_ROOM n k words ∷ []) u → v ≡ earlier p q → r ≡ earlier v u → FirstFailing (order n t k words) r
-ordered n t k words p q u v r f g h e i =
-    subst (FirstFailing (order n t k words)) (sym i)
-    (first_then (table_order n t ++ (LEVEL k ∷ [])) (LIST_ROOM n k words ∷ ROWS n t k ∷ []) v u (omega arith, (omega arith, (omega arith, (omega arith, tt))))
-    (subst (FirstFailing (table_order n t ++ (LEVEL k ∷ []))) (sym e) (first_then (table_order n t) (LEVEL k ∷ []) p q (table_numbered n t) f g)) (last h))
-  where
-    last : FirstFailing (LIST_ROOM n k words ∷ []) u → FirstFailing (LIST_ROOM n k words ∷ ROWS n t k ∷ []) u
-    last (inl x) = inl x
-    last (inr x) = inr (x.0, inr (rows_pass n t k, x.1))
+-- the question once every test has passed
+pub record Accepted (n : ℕ) (t : List ℕ) (k words : ℕ) : Type 0 where
+  pub table : Table n t
+  pub above : 0 < k
+  pub most : k ≤ 16
+  pub room : R n k * 4 ≤ words
 
-pub passed : (n : ℕ) (t : List ℕ) (k words r : ℕ) → FirstFailing (order n t k words) r → r ≡ 0 → Accepted n t k words
-passed n t k words r f e = go (table_passed n t (LEVEL k ∷ LIST_ROOM n k words ∷ ROWS n t k ∷ []) (omega arith, (omega arith, (omega arith, tt))) (subst (FirstFailing (order n t k words)) e f))
+pub record Says (n : ℕ) (t : List ℕ) (k : ℕ) (l l' : List ℕ) (g : ℕ) : Type 0 where
+  pub listed : Listed (linked t) n k g (set_at l')
+  pub most : g ≤ R n k
+  pub clear : (p : ℕ) → g * 4 ≤ p → p < R n k * 4 → get_or l' p 0 ≡ 0
+  pub past : (p : ℕ) → R n k * 4 ≤ p → get_or l' p 0 ≡ get_or l p 0
+  pub long : length l' ≡ length l
+
+-- the tests that come last; 15 never fails, so it needs no test
+pub room_last : (n : ℕ) (t : List ℕ) (k words r : ℕ) → FirstFailing (LIST_ROOM n k words ∷ []) r → FirstFailing (LIST_ROOM n k words ∷ ROWS n t k ∷ []) r
+room_last n t k words r (inl x) = inl x
+room_last n t k words r (inr x) = inr (x.0, inr (rows_pass n t k, x.1))
+
+pub passed : (n : ℕ) (t : List ℕ) (k words : ℕ) → FirstFailing (order n t k words) 0 → Accepted n t k words
+passed n t k words f = go (table_passed n t (LEVEL k ∷ LIST_ROOM n k words ∷ ROWS n t k ∷ []) (omega arith, (omega arith, (omega arith, tt))) f)
   where
     go : Table n t × Passes (LEVEL k ∷ LIST_ROOM n k words ∷ ROWS n t k ∷ []) → Accepted n t k words
     go (table, (level, (room, _))) = record { table = table; above = above (ℕ_discrete k 0); most = most (dec_lt 16 k); room = enough (dec_lt words (R n k * 4)) }
@@ -81,9 +86,9 @@ module _ (n : ℕ) (t : List ℕ) (k : ℕ) (l : List ℕ) (A : Accepted n t k (
   }
 
 -- the reply of a question that passed, and of one that did not
-pub replied : (n : ℕ) (t : List ℕ) (k : ℕ) (l l' : List ℕ) (g v : ℕ) → FirstFailing (order n t k (length l)) v → v ≡ 0 → Says n t k l l' g → Replies n t k l l' (Groups g)
-replied n t k l l' g v f e s = record {
-  refused = subst (FirstFailing (order n t k (length l))) e f;
+pub replied : (n : ℕ) (t : List ℕ) (k : ℕ) (l l' : List ℕ) (g : ℕ) → FirstFailing (order n t k (length l)) 0 → Says n t k l l' g → Replies n t k l l' (Ok g)
+replied n t k l l' g f s = record {
+  refused = f;
   kept = λ h. absurd (h refl);
   listed = λ _. s.listed;
   most = s.most;
@@ -92,7 +97,7 @@ replied n t k l l' g v f e s = record {
   long = s.long;
 }
 
-pub refused_reply : (n : ℕ) (t : List ℕ) (k : ℕ) (l : List ℕ) (r : Refusal) → FirstFailing (order n t k (length l)) (Rattle.card.specs.Card.number r) → Replies n t k l l (Refused r)
+pub refused_reply : (n : ℕ) (t : List ℕ) (k : ℕ) (l : List ℕ) (r : Refusal) → FirstFailing (order n t k (length l)) (number r) → Replies n t k l l (Err r)
 refused_reply n t k l r f = record {
   refused = f;
   kept = λ _. refl;
@@ -115,12 +120,12 @@ four_words l f h =
     at : (g j : ℕ) → g ≡ j → j < length l → drop g l ≡ get_or l j 0 ∷ drop (suc j) l
     at g j e m = ap (λ (x : ℕ). drop x l) e ∙ drop-cons l j 0 m
 
-pub row_inside : (n : ℕ) (t : List ℕ) (k : ℕ) (l : List ℕ) (i : ℕ) (r : holding_answer.Answer) → i * 4 + 4 ≤ length l → holding.Replies n t k (take (i * 4 + 4 - i * 4) (drop (i * 4) l)) r
+pub row_inside : (n : ℕ) (t : List ℕ) (k : ℕ) (l : List ℕ) (i : ℕ) (r : holding.Full) → i * 4 + 4 ≤ length l → holding.Replies n t k (take (i * 4 + 4 - i * 4) (drop (i * 4) l)) r
     → RowReplies n t k l i r
 row_inside n t k l i r h p = record { inside = λ _. subst (λ (s : List ℕ). holding.Replies n t k s r) (ap (λ (m : ℕ). take m (drop (i * 4) l)) four ∙ four_words l (i * 4) h) p; outside = λ g. absurd (omega arith) }
   where
     four : i * 4 + 4 - i * 4 ≡ 4
     four = omega arith
 
-pub row_outside : (n : ℕ) (t : List ℕ) (k : ℕ) (l : List ℕ) (i : ℕ) (r : holding_answer.Answer) → length l < i * 4 + 4 → holding.Replies n t k [] r → RowReplies n t k l i r
+pub row_outside : (n : ℕ) (t : List ℕ) (k : ℕ) (l : List ℕ) (i : ℕ) (r : holding.Full) → length l < i * 4 + 4 → holding.Replies n t k [] r → RowReplies n t k l i r
 row_outside n t k l i r h p = record { inside = λ g. absurd (omega arith); outside = λ _. p }

@@ -2,6 +2,7 @@
 -- words of 64 bits (Wide), which their type says; then the same stations are the same words.
 use mathlib.Core.List.{List, []}
 use mathlib.Core.Path.{◌≡◌, refl, sym, ap, ◌∙◌}
+use Rattle.std.proofs.Common.{Ok, Err}
 use Prim.Native.Nat.{ℕ, ◌+◌, ◌*◌, ◌/◌, ◌%◌, ◌^◌, ◌<◌, ◌≤◌}
 use native.Mathlib.Decide.{dec_lt}
 use native.Mathlib.Omega.{arith}
@@ -15,13 +16,12 @@ use Rattle.stations.proofs.Laws.{Wide, four, members_same}
 use Rattle.mesh.specs.Mesh.{R}
 use Rattle.mesh.specs.Table.{linked}
 use Rattle.mesh.proofs.OnlyOne.{listed_one}
+use Rattle.card.specs.Card.{number_of}
 use Rattle.card.proofs.Card.{first_one, refusal_one, number_above}
 use Rattle.listing.specs.List.{set_at}
-use Rattle.groups.specs.declared.Answer.{Answer}
-use Rattle.groups.specs.declared.Answer.TheVariants.{Groups, Refused}
-use Rattle.holding.specs.declared.Answer as held
+use Rattle.holding.specs.Reply as held
 use Rattle.holding.proofs.OnlyOne.{Worded, holding_only_one}
-use Rattle.groups.specs.Reply.{number, count, order, Replies, RowReplies}
+use Rattle.groups.specs.Reply.{Answer, count, order, Replies, RowReplies}
 
 wide_row : (l : List ℕ) (i : ℕ) → Wide l → Wide (row l i)
 wide_row l i w j = go (dec_lt j 4)
@@ -42,14 +42,14 @@ word_at l l' i q w w' e h =
     at l = four (λ (q : ℕ). get_or (row l i) q 0 ≡ get_or l (i * 4 + q) 0) (ap (λ (m : ℕ). get_or l m 0) (sym (add-zero (i * 4)))) refl refl refl q h
 
 module _ (n : ℕ) (t : List ℕ) (k : ℕ) (l a b : List ℕ) (wa : Wide a) (wb : Wide b) (r s : Answer) (p : Replies n t k l a r) (q : Replies n t k l b s) where
-  number_one : number r ≡ number s
-  number_one = first_one (order n t k (length l)) (number r) (number s) p.refused q.refused
+  number_one : number_of r ≡ number_of s
+  number_one = first_one (order n t k (length l)) (number_of r) (number_of s) p.refused q.refused
 
   -- where it is answered, the counts and the rows are the same
-  rows_one : number r ≡ 0 → (count r ≡ count s) × ((i : ℕ) → i < count r → set_at a i ≡ set_at b i)
+  rows_one : number_of r ≡ 0 → (count r ≡ count s) × ((i : ℕ) → i < count r → set_at a i ≡ set_at b i)
   rows_one e = listed_one (linked t) n k (count r) (count s) (set_at a) (set_at b) (p.listed e) (q.listed (sym number_one ∙ e))
 
-  words_one : number r ≡ 0 → a ≡ b
+  words_one : number_of r ≡ 0 → a ≡ b
   words_one e = ext_get_or 0 a b (p.long ∙ sym q.long) (λ x h. go x (dec_lt x (count r * 4)) (dec_lt x (R n k * 4)))
     where
       c : count r ≡ count s
@@ -65,14 +65,14 @@ module _ (n : ℕ) (t : List ℕ) (k : ℕ) (l a b : List ℕ) (wa : Wide a) (wb
   pub list_only_one : (r ≡ s) × (a ≡ b)
   list_only_one = go r s number_one (λ e. (rows_one e).0) words_one (λ h. p.kept h) (λ h. q.kept h)
     where
-      go : (r s : Answer) → number r ≡ number s → (number r ≡ 0 → count r ≡ count s) → (number r ≡ 0 → a ≡ b) → (¬ (number r ≡ 0) → a ≡ l) → (¬ (number s ≡ 0) → b ≡ l) → (r ≡ s) × (a ≡ b)
-      go (Groups g) (Groups h) e f w x y = (ap Groups (f refl), w refl)
-      go (Refused g) (Refused h) e f w x y = (ap Refused (refusal_one g h e), x (number_above g) ∙ sym (y (number_above h)))
-      go (Refused g) (Groups h) e f w x y = absurd (number_above g e)
-      go (Groups g) (Refused h) e f w x y = absurd (number_above h (sym e))
+      go : (r s : Answer) → number_of r ≡ number_of s → (number_of r ≡ 0 → count r ≡ count s) → (number_of r ≡ 0 → a ≡ b) → (¬ (number_of r ≡ 0) → a ≡ l) → (¬ (number_of s ≡ 0) → b ≡ l) → (r ≡ s) × (a ≡ b)
+      go (Ok g) (Ok h) e f w x y = (ap Ok (f refl), w refl)
+      go (Err g) (Err h) e f w x y = (ap Err (refusal_one g h e), x (number_above g) ∙ sym (y (number_above h)))
+      go (Err g) (Ok h) e f w x y = absurd (number_above g e)
+      go (Ok g) (Err h) e f w x y = absurd (number_above h (sym e))
 
 -- the holding question about a row where it stands in the list has one reply too
-pub row_only_one : (n : ℕ) (t : List ℕ) (k : ℕ) (l : List ℕ) (i : ℕ) (r r' : held.Answer) → Worded r → Worded r' → RowReplies n t k l i r → RowReplies n t k l i r' → r ≡ r'
+pub row_only_one : (n : ℕ) (t : List ℕ) (k : ℕ) (l : List ℕ) (i : ℕ) (r r' : held.Full) → Worded r → Worded r' → RowReplies n t k l i r → RowReplies n t k l i r' → r ≡ r'
 row_only_one n t k l i r r' w w' p q = go (dec_lt (length l) (i * 4 + 4))
   where
     go : Dec (length l < i * 4 + 4) → r ≡ r'

@@ -1,3 +1,2 @@
 -- What the contracts of `groups` cite.
 pub mod Reply
-pub mod Steps

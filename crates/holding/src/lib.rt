@@ -3,7 +3,7 @@
 
 ghost use Rattle.std.specs.Prelude.{◌≡◌, IfOk};
 ghost use Rattle.card.specs.Card.{number_of, FirstFailing};
-ghost use Rattle.holding.specs.Reply.{order, Replies, Judges};
+ghost use Rattle.holding.specs.Reply.{verdict, order, Replies, Judges};
 ghost use Rattle.holding.specs.Steps.{alone};
 
 use card::{Mesh, Refusal};
@@ -53,4 +53,15 @@ pub fn judged(n: usize, table: &[u64], k: usize, set: &[u64]) -> Result<Verdict<
     let asked = accept(n, table, k, set)?;
     let brief = alone(verdicts::judge(asked.table, StationSet::of_row(set, 0), k));
     Ok(brief)
+}
+
+// The verdict of a reply in the numbers of the rules: 0 for HOLDS, 1 for FEW, 2 for WEAK, and 0 for a refusal.
+pub fn verdict_of<W>(reply: &Result<Verdict<W>, Refusal>) -> u64
+    ensures { result ≡ verdict reply.now }
+{
+    match reply {
+        Ok(Verdict::Few) => 1,
+        Ok(Verdict::Weak(_)) => 2,
+        _ => 0,
+    }
 }

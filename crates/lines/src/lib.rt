@@ -11,6 +11,7 @@ ghost use Rattle.lines.specs.Sheets.{Room, Put};
 use stations::StationSet;
 
 // A page while it is written: the bytes before `at` stand.
+#[derive(Drop)]
 pub struct Sheet<'a> {
     bytes: &'a mut [u8],
     at: usize,

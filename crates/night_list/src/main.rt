@@ -24,8 +24,7 @@ fn read_full<R: Read>(input: &mut R, bytes: &mut [u8]) -> io::Result<usize>
 
 // The page of a survey, in one write where the system takes it whole.
 fn print<W: Write>(output: &mut W, survey: &[u8], page: &mut [u8]) -> io::Result<()> {
-    let answer = page::night_list(survey, page);
-    let length = answer.page_length();
+    let length = page::night_list(survey, page).unwrap_or(0);
     output.write_all(&page[..length])
 }
 

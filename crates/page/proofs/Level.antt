@@ -10,8 +10,10 @@ use Rattle.stations.specs.Words.{has, words, row, members}
 use Rattle.stations.specs.declared.StationSet.{StationSet}
 use Rattle.mesh.proofs.Bound.{total, weight}
 use Rattle.listing.specs.List.{set_at}
-use Rattle.lines.specs.Lines.{group_line, Added}
-use Rattle.lines.proofs.Adding.{added_none, added_then}
+use Rattle.lines.specs.Lines.{group_line}
+use Rattle.lines.specs.Sheets.{Room, Put}
+use Rattle.lines.specs.declared.Sheet.{Sheet}
+use Rattle.lines.proofs.Adding.{put_none, put_then}
 use Rattle.page.specs.Page.{group_lines}
 use Rattle.page.specs.Steps.{line_room, Fit, LevelPut}
 
@@ -29,29 +31,25 @@ total_next : (i : ℕ) (f : ℕ → ℕ) → total (suc i) f ≡ f i + total i f
 unfolding total
 total_next i f = refl
 
-pub level_none : (at k : ℕ) (serials l page : List ℕ) → LevelPut at k serials l 0 at page page
+pub level_none : (k : ℕ) (serials l : List ℕ) (p : Sheet) → LevelPut k serials l 0 p p
 unfolding group_lines total
-level_none at k serials l page = record { added = added_none at page; room = omega arith }
+level_none k serials l p = record { put = put_none p; end = omega arith }
 
-module _ (at k : ℕ) (serials l : List ℕ) (i place : ℕ) (page page' : List ℕ) (p : LevelPut at k serials l i place page page') (s : StationSet) (is : words s ≡ row l i) where
-  pub level_room : (g bytes : ℕ) → Fit at k serials l g bytes → i < g → place + size 256 (members s) * 11 + 60 ≤ bytes
-  level_room g bytes F h = omega (arith, p.room, F.room, total_up g i (line_room l) h, ap (λ (w : List ℕ). size 256 (has w)) is)
+module _ {k : ℕ} {serials l : List ℕ} {i : ℕ} {p q : Sheet} (P : LevelPut k serials l i p q) (s : StationSet) (is : words s ≡ row l i) where
+  pub level_room : {g : ℕ} → Fit k l g p → i < g → Room (size 256 (members s) * 11 + 60) q
+  level_room {g} F h = omega (arith, P.end, P.put.added.long, F.room, total_up g i (line_room l) h, ap (λ (w : List ℕ). size 256 (has w)) is)
 
-  pub level_more : (r : ℕ) (page'' : List ℕ) → Added place r (group_line k (i + 1) serials (members s)) page' page'' → r ≤ place + 7 + size 256 (members s) * 11
-      → LevelPut at k serials l (i + 1) r page page''
+  pub level_more : {r : Sheet} → Put (group_line k (i + 1) serials (members s)) q r → r.at ≤ q.at + 7 + size 256 (members s) * 11 → LevelPut k serials l (i + 1) p r
   unfolding group_lines
-  level_more r page'' a h = subst (λ (j : ℕ). LevelPut at k serials l j r page page'') {x = suc i} (omega arith) (record {
-    added = added_then at place r (group_lines k serials (set_at l) i) (group_line k (suc i) serials (set_at l i)) page page' page'' p.added line;
-    room = omega (arith, p.room, h, total_next i (line_room l), ap (λ (w : List ℕ). size 256 (has w)) is);
+  level_more {r} a h = subst (λ (j : ℕ). LevelPut k serials l j p r) {x = suc i} (omega arith) (record {
+    put = put_then P.put line;
+    end = omega (arith, P.end, h, total_next i (line_room l), ap (λ (w : List ℕ). size 256 (has w)) is);
   })
     where
-      line : Added place r (group_line k (suc i) serials (set_at l i)) page' page''
+      line : Put (group_line k (suc i) serials (set_at l i)) q r
       line =
-          subst (λ (j : ℕ). Added place r (group_line k j serials (set_at l i)) page' page'') {x = i + 1} (omega arith)
-          (subst (λ (w : List ℕ). Added place r (group_line k (i + 1) serials (has w)) page' page'') is a)
-
-pub level_all : (at k : ℕ) (serials l : List ℕ) (i g place : ℕ) (page page' : List ℕ) → LevelPut at k serials l i place page page' → i ≡ g → LevelPut at k serials l g place page page'
-level_all at k serials l i g place page page' p e = subst (λ (j : ℕ). LevelPut at k serials l j place page page') e p
+          subst (λ (j : ℕ). Put (group_line k j serials (set_at l i)) q r) {x = i + 1} (omega arith)
+          (subst (λ (w : List ℕ). Put (group_line k (i + 1) serials (has w)) q r) is a)
 
 -- ---- rows that weigh at most 128 have at most 128 times k + 2 stations
 sum_of : (g c : ℕ) (f w : ℕ → ℕ) → ((i : ℕ) → f i ≤ c + 22 * w i) → total g f ≤ g * c + 22 * total g w

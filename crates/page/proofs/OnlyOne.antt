@@ -7,18 +7,19 @@ use native.Mathlib.Decide.{dec_lt, ℕ_discrete}
 use native.Mathlib.Omega.{arith}
 use lib.ListN.{length, take}
 use lib.Seq.{length-take-le}
+use Rattle.std.specs.Prelude.{Result, Ok, Err}
 use Rattle.stations.specs.Sets.{Set}
 use Rattle.mesh.specs.Mesh.{Links, Group}
 use Rattle.mesh.specs.Table.{linked}
 use Rattle.mesh.proofs.OnlyOne.{listed_one}
+use Rattle.card.specs.Card.{number_of}
+use Rattle.card.specs.declared.Refusal.{Refusal}
 use Rattle.card.proofs.Card.{first_one, none_given, refusal_one, number_above}
 use Rattle.survey.proofs.OneSurvey.{same_version, same_stations, same_records, same_serials, same_table}
 use Rattle.survey.proofs.OnlyOne.{rejoined}
 use Rattle.lines.specs.Lines.{first_line, group_line, last_line, refused_line}
-use Rattle.page.specs.declared.PageAnswer.{PageAnswer}
-use Rattle.page.specs.declared.PageAnswer.TheVariants.{Printed, Refused}
 use Rattle.page.specs.Page.{group_lines, Levels, no_level, next_level, Last, survey_order, Page, refused, listed}
-use Rattle.page.specs.Reply.{number, PAGE_ROOM, Prints}
+use Rattle.page.specs.Reply.{PAGE_ROOM, Prints}
 
 lines_same : (k g : ℕ) (serials : List ℕ) (Q Q' : ℕ → Set) → ((i : ℕ) → i < g → Q i ≡ Q' i) → group_lines k serials Q g ≡ group_lines k serials Q' g
 unfolding group_lines
@@ -83,20 +84,20 @@ page_one bs x y (listed {v = v} {n = n} {m = m} {h = h} {serials = s} {table = t
     a' = subst (λ (z : List ℕ). Last (linked z) n' h) (same_table Y Z) (subst (λ (k : ℕ). Last (linked t) k h) (same_stations Y Z) a)
 
 -- a buffer with room is never refused
-pub night_list_answers : (bs p p' : List ℕ) (r : PageAnswer) → Prints bs p p' r → 262144 ≤ length p → number r ≡ 0
-night_list_answers bs p p' r x h = none_given (PAGE_ROOM (length p) ∷ []) (number r) x.refused (λ l. omega arith, tt)
+pub night_list_answers : (bs p p' : List ℕ) (r : Result ℕ Refusal) → Prints bs p p' r → 262144 ≤ length p → number_of r ≡ 0
+night_list_answers bs p p' r x h = none_given (PAGE_ROOM (length p) ∷ []) (number_of r) x.refused (λ l. omega arith, tt)
 
-pub night_list_only_one : (bs p a b : List ℕ) (r r' : PageAnswer) → Prints bs p a r → Prints bs p b r' → (r ≡ r') × (a ≡ b)
-night_list_only_one bs p a b r r' x y = go r r' x y (first_one (PAGE_ROOM (length p) ∷ []) (number r) (number r') x.refused y.refused)
+pub night_list_only_one : (bs p a b : List ℕ) (r r' : Result ℕ Refusal) → Prints bs p a r → Prints bs p b r' → (r ≡ r') × (a ≡ b)
+night_list_only_one bs p a b r r' x y = go r r' x y (first_one (PAGE_ROOM (length p) ∷ []) (number_of r) (number_of r') x.refused y.refused)
   where
-    go : (r r' : PageAnswer) → Prints bs p a r → Prints bs p b r' → number r ≡ number r' → (r ≡ r') × (a ≡ b)
-    go (Printed k) (Printed j) x y e = (ap Printed same, rejoined k j a b p same text (x.beyond refl) (y.beyond refl))
+    go : (r r' : Result ℕ Refusal) → Prints bs p a r → Prints bs p b r' → number_of r ≡ number_of r' → (r ≡ r') × (a ≡ b)
+    go (Ok k) (Ok j) x y e = (ap Ok same, rejoined k j a b p same text (x.beyond refl) (y.beyond refl))
       where
         text : take k a ≡ take j b
         text = page_one bs (take k a) (take j b) (x.printed refl) (y.printed refl)
 
         same : k ≡ j
         same = sym (length-take-le k a x.inside) ∙ ap length text ∙ length-take-le j b y.inside
-    go (Refused u) (Refused w) x y e = (ap Refused (refusal_one u w e), x.kept (number_above u) ∙ sym (y.kept (number_above w)))
-    go (Refused u) (Printed j) x y e = absurd (number_above u e)
-    go (Printed k) (Refused w) x y e = absurd (number_above w (sym e))
+    go (Err u) (Err w) x y e = (ap Err (refusal_one u w e), x.kept (number_above u) ∙ sym (y.kept (number_above w)))
+    go (Err u) (Ok j) x y e = absurd (number_above u e)
+    go (Ok k) (Err w) x y e = absurd (number_above w (sym e))

@@ -10,14 +10,15 @@ use Rattle.stations.specs.Sets.{stations}
 use Rattle.stations.specs.Words.{members}
 use Rattle.stations.specs.declared.StationSet.{StationSet}
 use Rattle.mesh.specs.Mesh.{Listed}
-use Rattle.mesh.specs.Table.{linked}
+use Rattle.mesh.specs.Table.{linked, Table}
 use Rattle.mesh.proofs.Bound.{total}
 use Rattle.listing.specs.List.{set_at, Asked, Listing}
 use Rattle.listing.proofs.AllStations as all
-use Rattle.lines.specs.Lines.{Added}
-use Rattle.lines.proofs.Adding.{added_none, added_then}
+use Rattle.lines.specs.Sheets.{Room, Put}
+use Rattle.lines.specs.declared.Sheet.{Sheet}
+use Rattle.lines.proofs.Adding.{put_none, put_then}
 use Rattle.page.specs.Page.{group_lines, no_level, next_level, Last}
-use Rattle.page.specs.Steps.{line_room, Fit, LevelPut, levels_room, Ready, LevelsPut}
+use Rattle.page.specs.Steps.{line_room, Fit, LevelPut, levels_room, LevelsPut}
 use Rattle.page.proofs.Level.{level_most}
 
 room_next : (h : ℕ) → levels_room (suc h) ≡ levels_room h + (3712 + 1408 * suc h)
@@ -43,51 +44,47 @@ room_16 = refl
 pub room_most : (h : ℕ) → h ≤ 16 → levels_room h ≤ 250880
 room_most h l = omega (arith, room_up h 16 l, room_16)
 
-pub levels_none : (at n : ℕ) (t serials page : List ℕ) → LevelsPut at n t serials 0 at page page
+pub levels_none : (n : ℕ) (t serials : List ℕ) (p : Sheet) → LevelsPut n t serials 0 p p
 unfolding levels_room
-levels_none at n t serials page = record { lines = []; levels = no_level; added = added_none at page; room = omega arith }
+levels_none n t serials p = record { lines = []; levels = no_level; put = put_none p; end = omega arith }
 
-module _ (at n : ℕ) (t serials l₀ : List ℕ) (bytes : ℕ) (A : Ready at n t serials l₀ bytes) (h place : ℕ) (page page' : List ℕ) (p : LevelsPut at n t serials h place page page') (below : h < 16)
+module _ {n : ℕ} {t serials : List ℕ} {h : ℕ} {p q : Sheet} (P : LevelsPut n t serials h p q) (T : Table n t) (below : h < 16)
     (l : List ℕ) (rows : length l ≡ 512) (set : StationSet) (law : (x : ℕ) → members set x ≡ stations n x) where
   above : 0 < h + 1
   above = omega arith
 
   pub level_asked : Asked t (members set) (h + 1) l
-  level_asked = all.asked n t (h + 1) A.table above l rows set law
+  level_asked = all.asked n t (h + 1) T above l rows set law
 
-  module _ (l' : List ℕ) (g : ℕ) (f : Listing t (members set) (h + 1) l l' g) where
+  module _ {l' : List ℕ} {g : ℕ} (f : Listing t (members set) (h + 1) l l' g) where
     few : g ≤ 128
-    few = omega (arith, f.most, all.few_rows n t (h + 1) A.table above l rows set law)
+    few = omega (arith, f.most, all.few_rows n t (h + 1) T above l rows set law)
 
     most : total g (line_room l') ≤ 3712 + 1408 * (h + 1)
-    most = level_most (h + 1) g l' few (omega (arith, f.weigh, all.few_rows n t (h + 1) A.table above l rows set law))
+    most = level_most (h + 1) g l' few (omega (arith, f.weigh, all.few_rows n t (h + 1) T above l rows set law))
 
-    pub rows_again : length l' ≡ 512
-    rows_again = omega (arith, f.long)
-
-    pub level_fit : bytes ≡ length page' → Fit place (h + 1) serials l' g (length page')
-    level_fit e = record {
+    pub level_fit : Room (levels_room 16 + 60) p → Fit (h + 1) l' g q
+    level_fit room = record {
       level = omega arith;
-      few = omega (arith, A.all_serials, A.table.few);
       most = few;
-      rows = all.rows_room n t (h + 1) A.table above l rows set law l' g f;
-      room = omega (arith, e, A.room, p.room, most, room_next h, room_up (suc h) 16 below);
+      rows = all.rows_room n t (h + 1) T above l rows set law l' g f;
+      room = omega (arith, room, P.put.added.long, P.end, most, room_next h, room_up (suc h) 16 below);
     }
 
     groups : Listed (linked t) n (h + 1) g (set_at l')
-    groups = all.listed n t (h + 1) A.table above l rows set law l' g f
+    groups = all.listed n t (h + 1) T above l rows set law l' g f
+
+    listed : Listed (linked t) n (suc h) g (set_at l')
+    listed = subst (λ (k : ℕ). Listed (linked t) n k g (set_at l')) {x = h + 1} (omega arith) groups
 
     -- the level has no group
     pub no_more : g ≡ 0 → Last (linked t) n h
     no_more e = inr (below, λ s G. let (i, m, q) = listed.groups.all s G in absurd (omega arith))
-      where
-        listed : Listed (linked t) n (suc h) g (set_at l')
-        listed = subst (λ (k : ℕ). Listed (linked t) n k g (set_at l')) {x = h + 1} (omega arith) groups
 
-    pub levels_more : (r : ℕ) (page'' : List ℕ) → ¬ (g ≡ 0) → LevelPut place (h + 1) serials l' g r page' page'' → LevelsPut at n t serials (h + 1) r page page''
-    levels_more r page'' some q = subst (λ (k : ℕ). LevelsPut at n t serials k r page page'') {x = suc h} (omega arith) (record {
-      lines = p.lines ++ group_lines (suc h) serials (set_at l') g;
-      levels = next_level p.levels g (set_at l') (omega arith) (subst (λ (k : ℕ). Listed (linked t) n k g (set_at l')) {x = h + 1} (omega arith) groups);
-      added = added_then at place r p.lines (group_lines (suc h) serials (set_at l') g) page page' page'' p.added (subst (λ (k : ℕ). Added place r (group_lines k serials (set_at l') g) page' page'') {x = h + 1} (omega arith) q.added);
-      room = omega (arith, p.room, q.room, most, room_next h);
+    pub levels_more : {r : Sheet} → ¬ (g ≡ 0) → LevelPut (h + 1) serials l' g q r → LevelsPut n t serials (h + 1) p r
+    levels_more {r} some a = subst (λ (k : ℕ). LevelsPut n t serials k p r) {x = suc h} (omega arith) (record {
+      lines = P.lines ++ group_lines (suc h) serials (set_at l') g;
+      levels = next_level P.levels g (set_at l') (omega arith) listed;
+      put = put_then P.put (subst (λ (k : ℕ). Put (group_lines k serials (set_at l') g) q r) {x = h + 1} (omega arith) a.put);
+      end = omega (arith, P.end, a.end, most, room_next h);
     })

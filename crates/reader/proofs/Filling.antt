@@ -4,30 +4,19 @@ use mathlib.Core.Bool.{true, false, ◌&&◌}
 use mathlib.Core.List.{List}
 use mathlib.Core.Logic.{◌⊎◌, inl, inr}
 use mathlib.Core.Path.{◌≡◌, refl, sym, ◌∙◌, subst}
-use Prim.Native.Nat.{ℕ, ◌+◌, ◌*◌, ◌<◌, ◌≤◌}
+use Prim.Native.Nat.{ℕ, ◌+◌, ◌*◌, ◌<◌}
 use native.Mathlib.Decide.{dec_lt, ℕ_discrete}
 use native.Mathlib.Omega.{arith}
 use lib.Dec.{eqb}
-use lib.ListN.{length, get_or, set, length-set, get_or-eq_default}
-use lib.Seq.{get_or-set_same, get_or-set_other}
+use lib.ListN.{length, get_or, replicate, get_or-eq_default}
+use Rattle.std.proofs.lemmas.List.{get_or-replicate, length-replicate}
 use borrow.Author.Tests.{eq-eqb, eqb-true}
 use Rattle.stations.proofs.Bools.{test, never, and_left, and_right, and_in, or_cases, or_left, or_right}
 use Rattle.mesh.specs.Table.{linked, Table}
 use Rattle.records.specs.Bytes.{Words}
-use Rattle.records.specs.Survey.{serial, low, high, Survey}
+use Rattle.records.specs.Survey.{low, high, Survey}
 use Rattle.reader.specs.Steps.{Accepted, SerialsFilled, LinkPut, Joins, Filled}
 use Rattle.reader.proofs.Put.{no_link}
-
--- ---- serials
-pub serials_none : (bs s : List ℕ) → SerialsFilled bs 0 s s
-serials_none bs s = record { whole = refl; each = λ k l. absurd (omega arith) }
-
-pub serials_more : {bs s s' : List ℕ} {i : ℕ} (x : ℕ) → SerialsFilled bs i s s' → i < length s → x ≡ serial 4 bs i → SerialsFilled bs (i + 1) s (set s' i x)
-serials_more {bs} {s} {s'} {i} x F l e = record { whole = length-set s' i x ∙ F.whole; each = λ k h. at k h (ℕ_discrete k i) }
-  where
-    at : (k : ℕ) → k < i + 1 → Dec (k ≡ i) → get_or (set s' i x) k 0 ≡ serial 4 bs k
-    at k h (yes q) = rw q (get_or-set_same s' i x 0 (omega (arith, F.whole)) ∙ e)
-    at k h (no q) = get_or-set_other s' i k x 0 q ∙ F.each k (omega arith)
 
 -- ---- the table
 pub filled_none : (bs t : List ℕ) (n : ℕ) → length t ≡ n * 4 → ((i : ℕ) → get_or t i 0 ≡ 0) → Filled bs n 0 t
@@ -64,18 +53,6 @@ module _ {bs t t' t'' : List ℕ} {n j : ℕ} (F : Filled bs n j t) (a b : ℕ) 
       from : (x y : ℕ) → (linked t' x y ≡ true) ⊎ ((eqb x b && eqb y a) ≡ true) → (k : ℕ) × (k < j + 1) × Joins bs n k x y
       from x y (inl e) = first x y (or_cases (linked t x y) (eqb x a && eqb y b) (sym (L.law x y) ∙ e))
       from x y (inr e) = let (u, v) = was x y b a e in (j, omega arith, inr (sym p ∙ sym v, sym q ∙ sym u))
-
--- the two stations of a record
-pub ends : {bs : List ℕ} {n m : ℕ} → Accepted bs n m → (j a b : ℕ) → j < m → a ≡ low 4 n bs j → b ≡ high 4 n bs j → (a < b) × (b < n) × (n ≤ 256)
-ends A j a b l p q = (omega (arith, A.pairs_right.apart j l), omega (arith, A.pairs_right.below j l), A.few)
-
--- all records are past
-pub filled_all : {bs t : List ℕ} {n j : ℕ} (m : ℕ) → Filled bs n j t → m ≤ j → j ≤ m → Filled bs n m t
-filled_all {bs} {t} {n} m F l h = record {
-  whole = F.whole;
-  each = λ k x y i. F.each k x y (omega arith);
-  only = λ x y e. let (k, i, J) = F.only x y e in (k, omega arith, J);
-}
 
 -- ---- the survey
 module _ {bs : List ℕ} {n m : ℕ} (A : Accepted bs n m) {t : List ℕ} (F : Filled bs n m t) where
@@ -123,16 +100,9 @@ module _ {bs : List ℕ} {n m : ℕ} (A : Accepted bs n m) {t : List ℕ} (F : F
   }
 
 -- ---- zeros
-pub zeros_more : (t : List ℕ) (i : ℕ) → i < length t → ((k : ℕ) → k < i → get_or t k 0 ≡ 0) → (k : ℕ) → k < i + 1 → get_or (set t i 0) k 0 ≡ 0
-zeros_more t i l z k h = go (ℕ_discrete k i)
+pub zeros : (n : ℕ) {t : List ℕ} → t ≡ replicate n 0 → (k : ℕ) → ◌≡◌ {A = ℕ} (get_or t k 0) 0
+zeros n e k = rw e (go (dec_lt k n))
   where
-    go : Dec (k ≡ i) → get_or (set t i 0) k 0 ≡ 0
-    go (yes e) = rw e (get_or-set_same t i 0 0 l)
-    go (no d) = get_or-set_other t i k 0 0 d ∙ z k (omega arith)
-
-pub zeros_all : (t : List ℕ) (w : ℕ) → length t ≡ w → ((k : ℕ) → k < w → get_or t k 0 ≡ 0) → (k : ℕ) → get_or t k 0 ≡ 0
-zeros_all t w e z k = go (dec_lt k w)
-  where
-    go : Dec (k < w) → get_or t k 0 ≡ 0
-    go (yes l) = z k l
-    go (no l) = get_or-eq_default t 0 {n = k} (omega arith)
+    go : Dec (k < n) → ◌≡◌ {A = ℕ} (get_or (replicate n 0) k 0) 0
+    go (yes l) = get_or-replicate n k 0 0 l
+    go (no l) = get_or-eq_default (replicate n 0) 0 {n = k} (omega (arith, length-replicate {A = ℕ} n 0))

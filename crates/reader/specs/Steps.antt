@@ -1,11 +1,21 @@
 -- What the steps of the reader ask and say.
+--   Heads bs h           the head of the bytes says h, and they are as many as it asks for
 --   Accepted bs n m      the bytes passed every test
 --   SerialsFilled        the serials stand in their buffer
 --   LinkPut t a b t'     t' is the table t with b in the row of a
 --   Filled bs n j t      the table t has the links of the first j records, and no other
-use Rattle.std.specs.Prelude.{true, ◌&&◌, ◌||◌, List, ◌⊎◌, ◌≡◌, ℕ, ◌*◌, ◌<◌, ◌≤◌, eqb, length, get_or}
+use Rattle.std.specs.Prelude.{true, ◌&&◌, ◌||◌, List, ◌⊎◌, ◌≡◌, ℕ, ◌+◌, ◌*◌, ◌<◌, ◌≤◌, eqb, length, get_or}
 use Rattle.mesh.specs.Table.{linked}
-use Rattle.records.specs.Survey.{Frame, Serials, Pairs, serial, low, high}
+use Rattle.records.specs.Survey.{Frame, Serials, Pairs, stations, records, serial, low, high}
+use Rattle.reader.specs.declared.Heading.{Heading}
+
+pub record Heads (bs : List ℕ) (h : Heading) : Type 0 where
+  pub one : h.version ≡ 1
+  pub stations_are : h.stations ≡ stations bs
+  pub records_are : h.links ≡ records bs
+  pub few : h.stations ≤ 256
+  pub most : h.links ≤ 8192
+  pub whole : length bs ≡ 9 + h.stations * 4 + h.links * 4
 
 pub record Accepted (bs : List ℕ) (n m : ℕ) : Type 0 where
   pub few : n ≤ 256

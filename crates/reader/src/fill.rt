@@ -1,24 +1,16 @@
 // The second pass of the reader, over a file that passed every test: it fills the buffers and cannot fail.
-ghost use Rattle.std.specs.Prelude.{◌≡◌, ℕ, ◌+◌, ◌*◌, ◌<◌, ◌≤◌, length, get_or};
+ghost use Rattle.std.specs.Prelude.{◌≡◌, ◌+◌, ◌*◌, ◌<◌, ◌≤◌, length};
 ghost use Rattle.reader.specs.Steps.{Accepted, SerialsFilled, LinkPut, Filled};
 
-// The serials of the file into their buffer.
-pub(crate) fn fill_serials(bytes: &[u8], n: usize, serials: &mut [u32])
-    requires { (length serials.old ≡ n) × (9 + n * 4 ≤ length bytes.now) }
-    ensures { SerialsFilled bytes.now n serials.old serials.new }
-{
-    for i in 0..n {
-        serials[i] = records::long_at(bytes, 9 + i * 4) as u32;
-    }
-}
+use crate::Heading;
 
-// Every word 0.
-fn clear(table: &mut [u64], words: usize)
-    requires { length table.old ≡ words }
-    ensures { (length table.new ≡ words) × ((i : ℕ) → get_or table.new i 0 ≡ 0) }
+// The serials of the file into their buffer.
+pub(crate) fn fill_serials(bytes: &[u8], serials: &mut [u32])
+    requires { 9 + length serials.old * 4 ≤ length bytes.now }
+    ensures { SerialsFilled bytes.now (length serials.old) serials.old serials.new }
 {
-    for i in 0..words {
-        table[i] = 0;
+    for (i, serial) in serials.iter_mut().enumerate() {
+        *serial = records::long_at(bytes, 9 + i * 4);
     }
 }
 
@@ -27,8 +19,7 @@ fn put_link(table: &mut [u64], a: usize, b: usize)
     requires { (b < 256) × (a * 4 + 4 ≤ length table.old) }
     ensures { LinkPut table.old a b table.new }
 {
-    let at = a * 4 + b / 64;
-    table[at] = table[at] | (1 << (b % 64));
+    table[a * 4 + b / 64] |= 1 << (b % 64);
 }
 
 // The links of the file into a table of zeros, each in both rows.
@@ -46,10 +37,10 @@ fn fill_links(bytes: &[u8], n: usize, m: usize, table: &mut [u64])
 }
 
 // The table of the file into its buffer.
-pub(crate) fn fill_table(bytes: &[u8], n: usize, m: usize, table: &mut [u64])
-    requires { Accepted bytes.now n m × (length table.old ≡ n * 4) }
-    ensures { Filled bytes.now n m table.new }
+pub(crate) fn fill_table(bytes: &[u8], heading: Heading, table: &mut [u64])
+    requires { Accepted bytes.now heading.stations heading.links × (length table.old ≡ heading.stations * 4) }
+    ensures { Filled bytes.now heading.stations heading.links table.new }
 {
-    clear(table, n * 4);
-    fill_links(bytes, n, m, table);
+    table.fill(0);
+    fill_links(bytes, heading.stations, heading.links, table);
 }

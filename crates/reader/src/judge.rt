@@ -1,90 +1,76 @@
 // The tests of the reader, in the order 8, 9, 10, 11, 14, 12, 13.
-ghost use Rattle.std.specs.Prelude.{[], ◌∷◌, ◌+◌, ◌*◌, ◌≤◌, length};
-ghost use Rattle.card.specs.Card.{verdict, FirstFailing};
+ghost use Rattle.std.specs.Prelude.{[], ◌∷◌, ◌+◌, ◌*◌, ◌≤◌, length, IfOk};
+ghost use Rattle.card.specs.Card.{number_of, FirstFailing};
 ghost use Rattle.records.specs.Lines.{MARK, VERSION, COUNT, LENGTH, ROOM, SERIAL, LINK, reader_order};
+ghost use Rattle.reader.specs.Steps.{Heads};
 
-use card::{Refusal, Tested};
+use crate::Heading;
+use card::Refusal;
 
 // 8: nine bytes or more, that begin with the mark.
-fn test_mark(bytes: &[u8]) -> Tested
-    ensures { FirstFailing (MARK bytes.now ∷ []) (verdict result) }
+fn test_mark(bytes: &[u8]) -> Result<(), Refusal>
+    ensures { FirstFailing (MARK bytes.now ∷ []) (number_of result) }
 {
-    if bytes.len() < 9 {
-        return Tested::Failed(Refusal::Mark);
+    if bytes.len() < 9 || !bytes.starts_with(b"RLM") {
+        return Err(Refusal::Mark);
     }
-    if bytes[0] != b'R' {
-        return Tested::Failed(Refusal::Mark);
-    }
-    if bytes[1] != b'L' {
-        return Tested::Failed(Refusal::Mark);
-    }
-    if bytes[2] != b'M' {
-        return Tested::Failed(Refusal::Mark);
-    }
-    Tested::Passed
+    Ok(())
 }
 
 // 9, 10, 11: version 1, at most 256 stations and 8,192 links, and as many bytes as these need.
-fn test_counts(bytes: &[u8]) -> Tested
+fn heading(bytes: &[u8]) -> Result<Heading, Refusal>
     requires { 9 ≤ length bytes.now }
-    ensures { FirstFailing (VERSION bytes.now ∷ COUNT bytes.now ∷ LENGTH bytes.now ∷ []) (verdict result) }
+    ensures tested { FirstFailing (VERSION bytes.now ∷ COUNT bytes.now ∷ LENGTH bytes.now ∷ []) (number_of result) }
+    ensures heads { IfOk result (Heads bytes.now) }
 {
-    if records::short_at(bytes, 3) != 1 {
-        return Tested::Failed(Refusal::Version);
+    let version = records::short_at(bytes, 3);
+    let stations = records::short_at(bytes, 5);
+    let links = records::short_at(bytes, 7);
+    if version != 1 {
+        return Err(Refusal::Version);
     }
-    let n = records::short_at(bytes, 5);
-    let m = records::short_at(bytes, 7);
-    if 256 < n {
-        return Tested::Failed(Refusal::Count);
+    if 256 < stations || 8192 < links {
+        return Err(Refusal::Count);
     }
-    if 8192 < m {
-        return Tested::Failed(Refusal::Count);
+    if bytes.len() != 9 + stations * 4 + links * 4 {
+        return Err(Refusal::Length);
     }
-    if bytes.len() != 9 + n * 4 + m * 4 {
-        return Tested::Failed(Refusal::Length);
-    }
-    Tested::Passed
+    Ok(Heading {
+        version,
+        stations,
+        links,
+    })
 }
 
 // 14: room for n serials and 4n words.
-fn test_room(n: usize, serials: usize, words: usize) -> Tested
+fn test_room(n: usize, serials: usize, words: usize) -> Result<(), Refusal>
     requires { n ≤ 256 }
-    ensures { FirstFailing (ROOM n serials words ∷ []) (verdict result) }
+    ensures { FirstFailing (ROOM n serials words ∷ []) (number_of result) }
 {
-    if serials < n {
-        return Tested::Failed(Refusal::Room);
+    if serials < n || words < n * 4 {
+        return Err(Refusal::Room);
     }
-    if words < n * 4 {
-        return Tested::Failed(Refusal::Room);
-    }
-    Tested::Passed
+    Ok(())
 }
 
 // 12, 13: the records, once the file has its length.
-fn test_records(bytes: &[u8], n: usize, m: usize) -> Tested
+fn test_records(bytes: &[u8], n: usize, m: usize) -> Result<(), Refusal>
     requires { (n ≤ 256) × (9 + n * 4 + m * 4 ≤ length bytes.now) }
-    ensures { FirstFailing (SERIAL n bytes.now ∷ LINK n m bytes.now ∷ []) (verdict result) }
+    ensures { FirstFailing (SERIAL n bytes.now ∷ LINK n m bytes.now ∷ []) (number_of result) }
 {
-    let of_serials = records::test_serials(bytes, n);
-    let of_links = records::test_links(bytes, n, m);
-    of_serials.then(of_links)
+    records::test_serials(bytes, n)?;
+    records::test_links(bytes, n, m)
 }
 
 // Every test of the reader: 8, 9, 10, 11, 14, 12, 13.
-pub(crate) fn test_file(bytes: &[u8], serials: usize, words: usize) -> Tested
-    ensures { FirstFailing (reader_order bytes.now serials words) (verdict result) }
+pub(crate) fn test_file(bytes: &[u8], serials: usize, words: usize) -> Result<Heading, Refusal>
+    ensures tested { FirstFailing (reader_order bytes.now serials words) (number_of result) }
+    ensures heads { IfOk result (Heads bytes.now) }
 {
-    let mark = test_mark(bytes);
-    let Tested::Passed = mark else {
-        return mark;
-    };
-    let counts = test_counts(bytes);
-    let Tested::Passed = counts else {
-        return counts;
-    };
-    let n = records::short_at(bytes, 5);
-    let m = records::short_at(bytes, 7);
-    let room = test_room(n, serials, words);
-    let of_records = test_records(bytes, n, m);
-    room.then(of_records)
+    test_mark(bytes)?;
+    let heading = heading(bytes)?;
+    let n = heading.stations;
+    let m = heading.links;
+    test_room(n, serials, words).and(test_records(bytes, n, m))?;
+    Ok(heading)
 }

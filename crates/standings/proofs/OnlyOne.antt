@@ -2,6 +2,7 @@
 use mathlib.Core.List.{List}
 use mathlib.Core.Logic.{◌⊎◌, inl, inr}
 use mathlib.Core.Path.{◌≡◌, refl, sym, ap}
+use Rattle.std.proofs.Common.{Ok, Err}
 use Prim.Native.Nat.{ℕ, ◌<◌, ◌≤◌}
 use native.Mathlib.Decide.{dec_lt}
 use native.Mathlib.Omega.{arith}
@@ -9,11 +10,9 @@ use Rattle.stations.specs.Sets.{Set, ◌is_in◌}
 use Rattle.mesh.specs.Mesh.{Links, Group}
 use Rattle.mesh.specs.Standing.{Standing, PairStanding}
 use Rattle.mesh.specs.Table.{linked}
-use Rattle.card.specs.Card.{Test}
+use Rattle.card.specs.Card.{number_of, Test}
 use Rattle.card.proofs.Card.{first_one, refusal_one, number_above}
-use Rattle.standings.specs.declared.Answer.{Answer}
-use Rattle.standings.specs.declared.Answer.TheVariants.{Stands, Refused}
-use Rattle.standings.specs.Reply.{number, Replies, station_order, pair_order}
+use Rattle.standings.specs.Reply.{Answer, Replies, station_order, pair_order}
 
 standing_le : (L : Links) (n x v w : ℕ) → Standing L n x v → Standing L n x w → v ≤ w
 standing_le L n x v w p q = go (dec_lt 0 v)
@@ -40,13 +39,13 @@ pair_one L n x y v w p q =
 
 -- whatever is asked, if there is one right level, there is one reply
 reply_one : (ts : List Test) (P : ℕ → Type 0) → ((v w : ℕ) → P v → P w → v ≡ w) → (r r' : Answer) → Replies ts P r → Replies ts P r' → r ≡ r'
-reply_one ts P one r r' p q = go r r' p q (first_one ts (number r) (number r') p.refused q.refused)
+reply_one ts P one r r' p q = go r r' p q (first_one ts (number_of r) (number_of r') p.refused q.refused)
   where
-    go : (r r' : Answer) → Replies ts P r → Replies ts P r' → number r ≡ number r' → r ≡ r'
-    go (Stands v) (Stands w) p q e = ap Stands (one v w (p.right refl) (q.right refl))
-    go (Refused x) (Refused y) p q e = ap Refused (refusal_one x y e)
-    go (Refused x) (Stands w) p q e = absurd (number_above x e)
-    go (Stands v) (Refused y) p q e = absurd (number_above y (sym e))
+    go : (r r' : Answer) → Replies ts P r → Replies ts P r' → number_of r ≡ number_of r' → r ≡ r'
+    go (Ok v) (Ok w) p q e = ap Ok (one v w (p.right refl) (q.right refl))
+    go (Err x) (Err y) p q e = ap Err (refusal_one x y e)
+    go (Err x) (Ok w) p q e = absurd (number_above x e)
+    go (Ok v) (Err y) p q e = absurd (number_above y (sym e))
 
 pub station_only_one : (n : ℕ) (t : List ℕ) (a : ℕ) (r r' : Answer) → Replies (station_order n t a) (Standing (linked t) n a) r
     → Replies (station_order n t a) (Standing (linked t) n a) r' → r ≡ r'

@@ -1,8 +1,8 @@
--- What the steps of the standings ask and say.
+-- What the steps of the standings say.
 use Rattle.std.specs.Prelude.{List, ℕ, ◌<◌}
 use Rattle.stations.specs.Sets.{Set, ◌is_in◌}
 use Rattle.mesh.specs.Mesh.{Group}
-use Rattle.mesh.specs.Table.{linked, Table}
+use Rattle.mesh.specs.Table.{linked}
 use Rattle.listing.specs.List.{set_at}
 
 -- one of the first g rows has the station a
@@ -12,7 +12,3 @@ Named l g a = (i : ℕ) × (i < g) × (a is_in set_at l i)
 -- some group at k has the station a
 abbrev pub InGroup : List ℕ → ℕ → ℕ → ℕ → Type 0
 InGroup t n k a = (s : Set) × Group (linked t) n k s × (a is_in s)
-
-pub record Asked (n : ℕ) (t : List ℕ) (a k : ℕ) : Type 0 where
-  pub table : Table n t
-  pub above : 0 < k

@@ -11,17 +11,16 @@ use Prim.Native.Nat.{ℕ, suc, ◌+◌, ◌*◌, ◌<◌, ◌≤◌}
 use native.Mathlib.Omega.{arith}
 use lib.ListN.{length, get_or, take}
 use Rattle.mesh.specs.Table.{Table}
-use Rattle.card.specs.Card.{FirstFailing}
+use Rattle.std.specs.Prelude.{Result}
+use Rattle.card.specs.declared.Refusal.{Refusal}
+use Rattle.card.specs.Card.{number_of, FirstFailing}
 use Rattle.card.proofs.Card.{passes_none, first_one, table_passes}
 use Rattle.records.specs.Survey as field
 use Rattle.records.specs.Survey.{Serials, Survey, link_count}
 use Rattle.records.specs.Lines.{reader_order, GIVEN_SERIAL, LINK_COUNT, FILE_ROOM, writer_order}
 use Rattle.records.proofs.Climbing.{serials_faultless, pairs_faultless}
-use Rattle.reader.specs.declared.ReadAnswer.{ReadAnswer}
-use Rattle.reader.specs.Reply as reading
+use Rattle.reader.specs.declared.Heading.{Heading}
 use Rattle.reader.specs.Reply.{Reads, version, stations, links}
-use Rattle.writer.specs.declared.WriteAnswer.{WriteAnswer}
-use Rattle.writer.specs.Reply as writing
 use Rattle.writer.specs.Reply.{Writes, file_length}
 use Rattle.survey.proofs.Ranks.{links_counted}
 use Rattle.survey.proofs.OneSurvey.{same_version, same_stations, same_records, same_serials, same_table, same_bytes}
@@ -81,13 +80,13 @@ reader_takes {v} {n} {m} {s} {t} {bs} serials words Y p q =
 
 -- ---- good input is never refused
 -- bytes that are a survey are read, and what is read is that survey
-pub reader_answers : {v n m : ℕ} {s t bs : List ℕ} → Survey v n m s t bs → (serials table serials' table' : List ℕ) (r : ReadAnswer) → Reads bs serials table serials' table' r
+pub reader_answers : {v n m : ℕ} {s t bs : List ℕ} → Survey v n m s t bs → (serials table serials' table' : List ℕ) (r : Result Heading Refusal) → Reads bs serials table serials' table' r
     → n ≤ length serials → n * 4 ≤ length table
-    → (reading.number r ≡ 0) × (version r ≡ v) × (stations r ≡ n) × (links r ≡ m) × (take n serials' ≡ s) × (take (n * 4) table' ≡ t)
+    → (number_of r ≡ 0) × (version r ≡ v) × (stations r ≡ n) × (links r ≡ m) × (take n serials' ≡ s) × (take (n * 4) table' ≡ t)
 reader_answers {v} {n} {m} {s} {t} {bs} Y serials table serials' table' r R ls lt =
     (taken, same_version Z Y, same, same_records Z Y, subst (λ (k : ℕ). take k serials' ≡ s) same (same_serials Z Y), subst (λ (k : ℕ). take (k * 4) table' ≡ t) same (same_table Z Y))
   where
-    taken : reading.number r ≡ 0
+    taken : number_of r ≡ 0
     taken = first_one (reader_order bs (length serials) (length table)) _ _ R.refused (reader_takes (length serials) (length table) Y ls lt)
 
     Z : Survey (version r) (stations r) (links r) (take (stations r) serials') (take (stations r * 4) table') bs
@@ -97,32 +96,32 @@ reader_answers {v} {n} {m} {s} {t} {bs} Y serials table serials' table' r R ls l
     same = same_stations Z Y
 
 -- an accepted table of at most 8,192 links with its serials is written where there is room
-pub writer_answers : (n : ℕ) (serials table bs bs' : List ℕ) (r : WriteAnswer) → Writes n serials table bs bs' r → Table n table → length serials ≡ n
-    → Serials n (λ i. get_or serials i 0) → link_count n table ≤ 8192 → 9 + n * 4 + link_count n table * 4 ≤ length bs → writing.number r ≡ 0
+pub writer_answers : (n : ℕ) (serials table bs bs' : List ℕ) (r : Result ℕ Refusal) → Writes n serials table bs bs' r → Table n table → length serials ≡ n
+    → Serials n (λ i. get_or serials i 0) → link_count n table ≤ 8192 → 9 + n * 4 + link_count n table * 4 ≤ length bs → number_of r ≡ 0
 writer_answers n serials table bs bs' r W T all right most fits =
     first_one (writer_order n serials table (length bs)) _ _ W.refused (writer_passes n serials table (length bs) T all right most fits)
 
 -- ---- the theorems
-pub table_read : (bs serials table serials' table' : List ℕ) (r : ReadAnswer) → Reads bs serials table serials' table' r → reading.number r ≡ 0
+pub table_read : (bs serials table serials' table' : List ℕ) (r : Result Heading Refusal) → Reads bs serials table serials' table' r → number_of r ≡ 0
     → Table (stations r) (take (stations r * 4) table')
 table_read bs serials table serials' table' r R e = (R.survey e).accepted
 
-pub read_write : (bs serials table serials' table' : List ℕ) (r : ReadAnswer) → Reads bs serials table serials' table' r → reading.number r ≡ 0
-    → (buffer buffer' : List ℕ) (w : WriteAnswer) → Writes (stations r) (take (stations r) serials') (take (stations r * 4) table') buffer buffer' w → length bs ≤ length buffer
-    → (writing.number w ≡ 0) × (file_length w ≡ length bs) × (take (length bs) buffer' ≡ bs)
+pub read_write : (bs serials table serials' table' : List ℕ) (r : Result Heading Refusal) → Reads bs serials table serials' table' r → number_of r ≡ 0
+    → (buffer buffer' : List ℕ) (w : Result ℕ Refusal) → Writes (stations r) (take (stations r) serials') (take (stations r * 4) table') buffer buffer' w → length bs ≤ length buffer
+    → (number_of w ≡ 0) × (file_length w ≡ length bs) × (take (length bs) buffer' ≡ bs)
 read_write bs serials table serials' table' r R e buffer buffer' w W room = (taken, long, subst (λ (k : ℕ). take k buffer' ≡ bs) long (sym (same_bytes Y (W.survey taken))))
   where
     Y : Survey (version r) (stations r) (links r) (take (stations r) serials') (take (stations r * 4) table') bs
     Y = R.survey e
 
-    taken : writing.number w ≡ 0
+    taken : number_of w ≡ 0
     taken = first_one (writer_order (stations r) (take (stations r) serials') (take (stations r * 4) table') (length buffer)) _ _ W.refused (writer_takes (length buffer) Y room)
 
     long : file_length w ≡ length bs
     long = W.whole taken ∙ ap (λ (k : ℕ). 9 + stations r * 4 + k * 4) (links_counted Y) ∙ sym Y.frame.whole
 
-pub write_read : (n : ℕ) (serials table buffer buffer' : List ℕ) (w : WriteAnswer) → Writes n serials table buffer buffer' w → writing.number w ≡ 0
-    → (s t s' t' : List ℕ) (r : ReadAnswer) → Reads (take (file_length w) buffer') s t s' t' r → n ≤ length s → n * 4 ≤ length t
-    → (reading.number r ≡ 0) × (stations r ≡ n) × (links r ≡ link_count n table) × (take n s' ≡ serials) × (take (n * 4) t' ≡ table)
+pub write_read : (n : ℕ) (serials table buffer buffer' : List ℕ) (w : Result ℕ Refusal) → Writes n serials table buffer buffer' w → number_of w ≡ 0
+    → (s t s' t' : List ℕ) (r : Result Heading Refusal) → Reads (take (file_length w) buffer') s t s' t' r → n ≤ length s → n * 4 ≤ length t
+    → (number_of r ≡ 0) × (stations r ≡ n) × (links r ≡ link_count n table) × (take n s' ≡ serials) × (take (n * 4) t' ≡ table)
 write_read n serials table buffer buffer' w W e s t s' t' r R ls lt =
     let (taken, one, stations_are, links_are, serials_are, table_is) = reader_answers (W.survey e) s t s' t' r R ls lt in (taken, stations_are, links_are, serials_are, table_is)

@@ -1,15 +1,15 @@
 -- A whole file: the head, the serials and the links stand in the buffer, and then the buffer is the survey.
 -- Record j is the link with j links below it (nth); records rise because their ranks do.
 use mathlib.Core.Bool.{true, ◌&&◌}
-use mathlib.Core.List.{List}
+use mathlib.Core.List.{List, [], ◌∷◌, ◌++◌}
 use mathlib.Core.Logic.{inl, inr}
 use mathlib.Core.Path.{◌≡◌, refl, sym, ap, ◌∙◌, subst, subst₂}
 use Prim.Native.Nat.{ℕ, suc, ◌+◌, ◌*◌, ◌/◌, ◌%◌, ◌<◌, ◌≤◌}
 use native.Mathlib.Decide.{dec_lt, ℕ_discrete}
 use native.Mathlib.Omega.{arith}
 use lib.Dec.{ltb}
-use lib.ListN.{length, get_or, set, length-set}
-use lib.Seq.{get_or-set_same, get_or-set_other}
+use lib.ListN.{length, get_or, drop}
+use Rattle.std.proofs.Common.{length-drop}
 use borrow.Author.Tests.{ltb-true, lt-ltb}
 use Rattle.stations.specs.Sets.{◌is_in◌, size}
 use Rattle.stations.proofs.Bools.{and_left, and_right, and_in}
@@ -17,38 +17,29 @@ use Rattle.stations.proofs.Counting.{nth}
 use Rattle.mesh.specs.Table.{linked, Table}
 use Rattle.records.specs.Bytes.{short, long, Octets, Words, Kept}
 use Rattle.records.specs.Survey.{Mark, Serials, serial, low, high, After, Pairs, Survey, links, link_count}
-use Rattle.records.proofs.Fields.{kept_self, kept_trans, short_kept, long_kept}
+use Rattle.records.proofs.Fields.{kept_trans, short_kept, long_kept}
 use Rattle.writer.specs.Steps.{Laid, HeadPut, SerialsPut, LinksPut, FilePut}
 use Rattle.writer.proofs.Listing.{rank_less}
 
 -- ---- the head
+-- the three letters and what is behind them
 abbrev pub marked : List ℕ → List ℕ
-marked bs = set (set (set bs 0 82) 1 76) 2 77
-
-pub marked_length : (bs : List ℕ) → length (marked bs) ≡ length bs
-marked_length bs = simp length-set
-
-marked_mark : (bs : List ℕ) → 9 ≤ length bs → Mark (marked bs)
-marked_mark bs l =
-    let l₁ : length (set bs 0 82) ≡ length bs = length-set bs 0 82 in
-    let l₂ : length (set (set bs 0 82) 1 76) ≡ length bs = length-set (set bs 0 82) 1 76 ∙ l₁ in (
-      get_or-set_other (set (set bs 0 82) 1 76) 2 0 77 0 (λ e. omega arith) ∙ get_or-set_other (set bs 0 82) 1 0 76 0 (λ e. omega arith) ∙ get_or-set_same bs 0 82 0 (omega arith),
-      get_or-set_other (set (set bs 0 82) 1 76) 2 1 77 0 (λ e. omega arith) ∙ get_or-set_same (set bs 0 82) 1 76 0 (omega arith),
-      get_or-set_same (set (set bs 0 82) 1 76) 2 77 0 (omega arith),
-    )
+marked bs = (82 ∷ 76 ∷ 77 ∷ []) ++ drop 3 bs
 
 mark_kept : {at : ℕ} {bs bs' : List ℕ} → Kept at bs bs' → 3 ≤ at → Mark bs → Mark bs'
 mark_kept K l (p, q, r) = (K.same 0 (omega arith) ∙ p, K.same 1 (omega arith) ∙ q, K.same 2 (omega arith) ∙ r)
 
-pub head_put : (n m : ℕ) {bs b₁ b₂ b₃ : List ℕ} → 9 ≤ length bs → Kept 3 (marked bs) b₁ → short b₁ 3 ≡ 1 → Kept 5 b₁ b₂ → short b₂ 5 ≡ n → Kept 7 b₂ b₃ → short b₃ 7 ≡ m
-    → HeadPut n m bs b₃
-head_put n m {bs} l K e L f M g = record {
-  whole = M.whole ∙ L.whole ∙ K.whole ∙ marked_length bs;
-  mark = mark_kept M (omega arith) (mark_kept L (omega arith) (mark_kept K (omega arith) (marked_mark bs l)));
-  one = short_kept 3 M (omega arith) ∙ short_kept 3 L (omega arith) ∙ e;
-  stations_are = short_kept 5 M (omega arith) ∙ f;
-  records_are = g;
-}
+pub head_put : (n m : ℕ) {bs letters b₁ b₂ b₃ : List ℕ} → 9 ≤ length bs → letters ≡ 82 ∷ 76 ∷ 77 ∷ [] → Kept 3 (letters ++ drop 3 bs) b₁ → short b₁ 3 ≡ 1
+    → Kept 5 b₁ b₂ → short b₂ 5 ≡ n → Kept 7 b₂ b₃ → short b₃ 7 ≡ m → HeadPut n m bs b₃
+head_put n m {bs} {letters} {b₁} l r J e L f M g =
+    let K : Kept 3 (marked bs) b₁ = subst (λ (xs : List ℕ). Kept 3 (xs ++ drop 3 bs) b₁) r J in
+    record {
+      whole = M.whole ∙ L.whole ∙ K.whole ∙ omega (arith, length-drop 3 bs);
+      mark = mark_kept M (omega arith) (mark_kept L (omega arith) (mark_kept K (omega arith) (refl, refl, refl)));
+      one = short_kept 3 M (omega arith) ∙ short_kept 3 L (omega arith) ∙ e;
+      stations_are = short_kept 5 M (omega arith) ∙ f;
+      records_are = g;
+    }
 
 head_kept : {n m at : ℕ} {bs b₁ b₂ : List ℕ} → HeadPut n m bs b₁ → Kept at b₁ b₂ → 9 ≤ at → HeadPut n m bs b₂
 head_kept H K l = record {
@@ -60,25 +51,19 @@ head_kept H K l = record {
 }
 
 -- ---- the serials
-pub serials_none : (serials bs : List ℕ) → SerialsPut 0 serials bs bs
-serials_none serials bs = record { kept = kept_self 9 bs; each = λ i l. absurd (omega arith) }
-
-pub serials_more : (i x : ℕ) {serials bs b₁ b₂ : List ℕ} → SerialsPut i serials bs b₁ → Kept (9 + i * 4) b₁ b₂ → long b₂ (9 + i * 4) ≡ x → x ≡ get_or serials i 0
+pub serials_more : (i : ℕ) {serials bs b₁ b₂ : List ℕ} → SerialsPut i serials bs b₁ → Kept (9 + i * 4) b₁ b₂ → long b₂ (9 + i * 4) ≡ get_or serials i 0
     → SerialsPut (i + 1) serials bs b₂
-serials_more i x {serials} {bs} {b₁} {b₂} S K e f = record { kept = kept_trans S.kept K (omega arith); each = λ k l. go k l (ℕ_discrete k i) }
+serials_more i {serials} {bs} {b₁} {b₂} S K e = record { kept = kept_trans S.kept K (omega arith); each = λ k l. go k l (ℕ_discrete k i) }
   where
     go : (k : ℕ) → k < i + 1 → Dec (k ≡ i) → serial 4 b₂ k ≡ get_or serials k 0
-    go k l (yes q) = rw q (e ∙ f)
+    go k l (yes q) = rw q e
     go k l (no q) = long_kept (9 + k * 4) K (omega arith) ∙ S.each k (omega arith)
 
-pub serials_all : (n i : ℕ) {serials bs b₁ : List ℕ} → SerialsPut i serials bs b₁ → n ≤ i → SerialsPut n serials bs b₁
-serials_all n i S l = record { kept = S.kept; each = λ k h. S.each k (omega arith) }
-
 -- ---- the whole file
-pub file_put : (n m r : ℕ) (t : List ℕ) {serials bs b₁ b₂ b₃ : List ℕ} → HeadPut n m bs b₁ → SerialsPut n serials b₁ b₂ → LinksPut n t (9 + n * 4) r b₂ b₃ → FilePut n m serials t bs b₃
-file_put n m r t H S L = record {
+pub file_put : (n m r : ℕ) (t : List ℕ) {serials bs b₁ b₂ b₃ : List ℕ} → HeadPut n m bs b₁ → length serials ≡ n → SerialsPut (length serials) serials b₁ b₂ → LinksPut n t (9 + n * 4) r b₂ b₃ → FilePut n m serials t bs b₃
+file_put n m r t H e S L = record {
   head = head_kept (head_kept H S.kept (omega arith)) L.kept (omega arith);
-  serials_are = λ i l. long_kept (9 + i * 4) L.kept (omega arith) ∙ S.each i l;
+  serials_are = λ i l. long_kept (9 + i * 4) L.kept (omega arith) ∙ S.each i (omega arith);
   links_are = L.laid;
 }
 

@@ -1,5 +1,5 @@
 pub mod Listing
-pub mod Bits
+pub mod Rows
 pub mod Links
 pub mod File
 pub mod Tests

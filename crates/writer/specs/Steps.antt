@@ -4,7 +4,6 @@
 --   Ready n m serials table room, FilePut    before and after a whole file is put
 use Rattle.std.specs.Prelude.{List, ◌≡◌, ℕ, ◌+◌, ◌*◌, ◌/◌, ◌%◌, ◌<◌, ◌≤◌, length, get_or}
 use Rattle.stations.specs.Sets.{Set, ◌is_in◌, size}
-use Rattle.mesh.specs.Table.{Table}
 use Rattle.records.specs.Bytes.{short, Kept}
 use Rattle.records.specs.Survey.{Mark, version, stations, records, serial, links, link_count}
 
@@ -33,7 +32,6 @@ abbrev pub LinksPut : ℕ → List ℕ → ℕ → ℕ → List ℕ → List ℕ
 LinksPut n t at r bs bs' = Put (n * 256) (links t) (λ x. x / 256) (λ x. x % 256) at r bs bs'
 
 pub record Ready (n m : ℕ) (serials t : List ℕ) (room : ℕ) : Type 0 where
-  pub table : Table n t
   pub all_serials : length serials ≡ n
   pub counted : m ≡ link_count n t
   pub most : m ≤ 8192

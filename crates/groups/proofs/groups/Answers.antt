@@ -1,32 +1,60 @@
-use mathlib.Core.Path.{ap, subst}
+use mathlib.Core.List.{[], ◌∷◌}
+use mathlib.Core.Path.{◌≡◌}
+use Prim.Native.Nat.{ℕ}
+use native.Mathlib.Omega.{arith}
 use lib.ListN.{length}
-use Rattle.card.specs.Card.{FirstFailing, verdict}
-use Rattle.card.specs.declared.Tested.{Tested}
+use Rattle.stations.specs.Sets.{stations}
+use Rattle.stations.specs.Words.{members}
+use Rattle.card.specs.Card.{FirstFailing, table_order, LEVEL, LIST_ROOM, ROWS}
+use Rattle.card.proofs.Card.{exit_is, first_stop, first_go, table_numbered}
 use Rattle.groups.specs.Reply.{order}
-use Rattle.groups.proofs.Laws.{ordered, passed, replied, refused_reply}
-use Rattle.groups.proofs.groups.Goals.{After-then-tested}
+use Rattle.groups.proofs.Laws.{room_last, passed, asked, told, replied, refused_reply}
+use Rattle.groups.proofs.groups.Goals.{After-stations, In_ok-test_list_room}
 use Rattle.groups.proofs.groups.Goals as goal
 
--- the number that the tests come to
-first : (c : After-then-tested) → let s = c.args in FirstFailing (order s.n s.table.now s.k (length s.list.now)) (verdict c.then-tested.result)
-first c = let s = c.args in
-    ordered s.n s.table.now s.k (length s.list.now) _ _ _ _ _ c.test_table-of_table.ensures c.test_level-of_level.ensures c.test_list_room-of_room.ensures c.then.ensures c.then-tested.ensures
+pub returns-in_err-mesh : goal.returns-in_err-mesh
+returns-in_err-mesh c = let a = c.args in
+    let w = length a.list.now in
+    rw (exit_is _ _ c.from_residual.ensures.1) (refused_reply a.n a.table.now a.k a.list.now _
+    (first_stop (table_order a.n a.table.now) (LEVEL a.k ∷ LIST_ROOM a.n a.k w ∷ ROWS a.n a.table.now a.k ∷ []) _ c.in_err-mesh.ensures.refused))
 
-pub ask-found-requires : goal.ask-found-requires
-ask-found-requires c =
-    let e = (goal.at.ask-found-requires c).After-then-tested in
-    let s = c.args in
-    passed s.n s.table.now s.k (length s.list.now) _ (first e) (ap verdict c.in-Passed.is)
+pub returns-in_err-test_level : goal.returns-in_err-test_level
+returns-in_err-test_level c = let a = c.args in
+    let w = length a.list.now in
+    rw (exit_is _ _ c.from_residual-in_err-test_level.ensures.1) (refused_reply a.n a.table.now a.k a.list.now _
+    (first_go (table_order a.n a.table.now) (LEVEL a.k ∷ LIST_ROOM a.n a.k w ∷ ROWS a.n a.table.now a.k ∷ []) _ (table_numbered a.n a.table.now) c.in_ok-mesh.ensures.refused
+    (first_stop (LEVEL a.k ∷ []) (LIST_ROOM a.n a.k w ∷ ROWS a.n a.table.now a.k ∷ []) _ c.in_err-test_level.ensures)))
 
-pub returns-in-Passed : goal.returns-in-Passed
-returns-in-Passed c =
-    let e = (goal.at.returns-in-Passed c).After-then-tested in
-    let s = c.args in
-    replied s.n s.table.now s.k s.list.now c.ask-found.new.list c.ask-found.result (verdict c.then-tested.result) (first e) (ap verdict c.in-Passed.is) c.ask-found.ensures
+pub returns-in_err-test_list_room : goal.returns-in_err-test_list_room
+returns-in_err-test_list_room c = let a = c.args in
+    let w = length a.list.now in
+    rw (exit_is _ _ c.from_residual-in_err-test_list_room.ensures.1) (refused_reply a.n a.table.now a.k a.list.now _
+    (first_go (table_order a.n a.table.now) (LEVEL a.k ∷ LIST_ROOM a.n a.k w ∷ ROWS a.n a.table.now a.k ∷ []) _ (table_numbered a.n a.table.now) c.in_ok-mesh.ensures.refused
+    (first_go (LEVEL a.k ∷ []) (LIST_ROOM a.n a.k w ∷ ROWS a.n a.table.now a.k ∷ []) _ (omega arith, tt) c.in_ok-test_level.ensures
+    (room_last a.n a.table.now a.k w _ c.in_err-test_list_room.ensures))))
 
-pub returns-in-Failed : goal.returns-in-Failed
-returns-in-Failed c =
-    let e = (goal.at.returns-in-Failed c).After-then-tested in
-    let s = c.args in
-    refused_reply s.n s.table.now s.k s.list.now c.in-Failed.r
-    (subst (λ (v : Tested). FirstFailing (order s.n s.table.now s.k (length s.list.now)) (verdict v)) c.in-Failed.is (first e))
+-- every test has passed
+all : (c : In_ok-test_list_room) → let a = c.args in FirstFailing (order a.n a.table.now a.k (length a.list.now)) 0
+all c = let a = c.args in
+    let w = length a.list.now in
+    first_go (table_order a.n a.table.now) (LEVEL a.k ∷ LIST_ROOM a.n a.k w ∷ ROWS a.n a.table.now a.k ∷ []) _ (table_numbered a.n a.table.now) c.in_ok-mesh.ensures.refused
+    (first_go (LEVEL a.k ∷ []) (LIST_ROOM a.n a.k w ∷ ROWS a.n a.table.now a.k ∷ []) _ (omega arith, tt) c.in_ok-test_level.ensures
+    (room_last a.n a.table.now a.k w _ c.in_ok-test_list_room.ensures))
+
+-- the stations that are listed are those below n
+below : (c : After-stations) → (x : ℕ) → members c.stations.result x ≡ stations c.args.n x
+below c = rw c.in_ok-mesh.ensures.same.0 at c.stations.ensures
+
+pub list_within-found-requires : goal.list_within-found-requires
+list_within-found-requires c = let a = c.args in
+    let at = goal.at.list_within-found-requires c in
+    rw c.in_ok-mesh.ensures.same.1
+    (asked a.n a.table.now a.k a.list.now (passed a.n a.table.now a.k (length a.list.now) (all at.In_ok-test_list_room)) c.stations.result (below at.After-stations))
+
+pub returns : goal.returns
+returns c = let a = c.args in
+    let at = goal.at.returns c in
+    let f = all at.In_ok-test_list_room in
+    replied a.n a.table.now a.k a.list.now c.list_within-found.new.list c.list_within-found.result f
+    (told a.n a.table.now a.k a.list.now (passed a.n a.table.now a.k (length a.list.now) f) c.stations.result (below at.After-stations)
+    c.list_within-found.new.list c.list_within-found.result (rw c.in_ok-mesh.ensures.same.1 at c.list_within-found.ensures))

@@ -1,11 +1,10 @@
-use Rattle.std.proofs.lemmas.Result.{err_from_is_err_and}
+use Rattle.card.proofs.Card.{exit_is}
 use Rattle.holding.proofs.Laws.{replied, refused_reply}
 use Rattle.holding.proofs.holding.Goals as goal
 
 pub returns-in_err-mesh : goal.returns-in_err-mesh
 returns-in_err-mesh c = let a = c.args in
-    let p = err_from_is_err_and c.from_residual.result c.from_residual.ensures.1 in
-    rw (p.1, p.2) (refused_reply a.n a.table.now a.k a.set.now _ c.in_err-mesh.ensures.refused)
+    rw (exit_is _ _ c.from_residual.ensures.1) (refused_reply a.n a.table.now a.k a.set.now _ c.in_err-mesh.ensures.refused)
 
 pub returns : goal.returns
 returns c = let a = c.args in

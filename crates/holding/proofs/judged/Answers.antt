@@ -1,11 +1,10 @@
-use Rattle.std.proofs.lemmas.Result.{err_from_is_err_and}
+use Rattle.card.proofs.Card.{exit_is}
 use Rattle.holding.proofs.Laws.{judged_reply, judged_refused}
 use Rattle.holding.proofs.judged.Goals as goal
 
 pub returns-in_err-asked : goal.returns-in_err-asked
 returns-in_err-asked c = let a = c.args in
-    let p = err_from_is_err_and c.from_residual.result c.from_residual.ensures.1 in
-    rw (p.1, p.2) (judged_refused a.n a.table.now a.k a.set.now _ c.in_err-asked.ensures.refused)
+    rw (exit_is _ _ c.from_residual.ensures.1) (judged_refused a.n a.table.now a.k a.set.now _ c.in_err-asked.ensures.refused)
 
 pub returns : goal.returns
 returns c = let a = c.args in

@@ -1,34 +1,26 @@
-use mathlib.Core.Path.{ap, subst}
-use native.Mathlib.Omega.{arith}
+use mathlib.Core.List.{[], ◌∷◌}
 use Rattle.mesh.specs.Table.{linked}
 use Rattle.mesh.specs.Standing.{PairStanding}
-use Rattle.card.specs.Card.{FirstFailing, verdict, PAIR}
-use Rattle.card.specs.declared.Tested.{Tested}
-use Rattle.standings.specs.Reply.{pair_order}
-use Rattle.standings.proofs.Laws.{ordered, passed, replied, refused_reply}
-use Rattle.standings.proofs.pair_standing.Goals.{After-then-tested}
+use Rattle.card.specs.Card.{table_order, PAIR}
+use Rattle.card.proofs.Card.{exit_is, first_stop, first_go, table_numbered}
+use Rattle.standings.specs.Reply.{ROWS_AT_ALL, pair_order}
+use Rattle.standings.proofs.Laws.{own_last, replied, refused_reply}
 use Rattle.standings.proofs.pair_standing.Goals as goal
 
--- the number that the tests come to
-first : (c : After-then-tested) → let s = c.args in FirstFailing (pair_order s.n s.table.now s.a s.b) (verdict c.then-tested.result)
-first c = let s = c.args in
-    ordered s.n s.table.now (PAIR s.n s.a s.b) (omega arith) _ _ _ c.test_table-of_table.ensures c.test_pair-of_pair.ensures c.then-tested.ensures
+pub returns-in_err-mesh : goal.returns-in_err-mesh
+returns-in_err-mesh c = let a = c.args in
+    rw (exit_is _ _ c.from_residual.ensures.1) (refused_reply (pair_order a.n a.table.now a.a a.b) (PairStanding (linked a.table.now) a.n a.a a.b) _
+    (first_stop (table_order a.n a.table.now) (PAIR a.n a.a a.b ∷ ROWS_AT_ALL a.n a.table.now ∷ []) _ c.in_err-mesh.ensures.refused))
 
-pub smaller-least-requires : goal.smaller-least-requires
-smaller-least-requires c =
-    let e = (goal.at.smaller-least-requires c).After-then-tested in
-    let s = c.args in
-    passed s.n s.table.now (PAIR s.n s.a s.b) (omega arith) _ s.a (first e) (ap verdict c.in-Passed.is)
+pub returns-in_err-test_pair : goal.returns-in_err-test_pair
+returns-in_err-test_pair c = let a = c.args in
+    rw (exit_is _ _ c.from_residual-in_err-test_pair.ensures.1) (refused_reply (pair_order a.n a.table.now a.a a.b) (PairStanding (linked a.table.now) a.n a.a a.b) _
+    (first_go (table_order a.n a.table.now) (PAIR a.n a.a a.b ∷ ROWS_AT_ALL a.n a.table.now ∷ []) _ (table_numbered a.n a.table.now) c.in_ok-mesh.ensures.refused
+    (own_last a.n a.table.now (PAIR a.n a.a a.b) _ c.in_err-test_pair.ensures)))
 
-pub returns-in-Passed : goal.returns-in-Passed
-returns-in-Passed c =
-    let e = (goal.at.returns-in-Passed c).After-then-tested in
-    let s = c.args in
-    replied (pair_order s.n s.table.now s.a s.b) (PairStanding (linked s.table.now) s.n s.a s.b) (verdict c.then-tested.result) _ (first e) (ap verdict c.in-Passed.is) c.smaller-least.ensures
-
-pub returns-in-Failed : goal.returns-in-Failed
-returns-in-Failed c =
-    let e = (goal.at.returns-in-Failed c).After-then-tested in
-    let s = c.args in
-    refused_reply (pair_order s.n s.table.now s.a s.b) (PairStanding (linked s.table.now) s.n s.a s.b) c.in-Failed.r
-    (subst (λ (v : Tested). FirstFailing (pair_order s.n s.table.now s.a s.b) (verdict v)) c.in-Failed.is (first e))
+pub returns : goal.returns
+returns c = let a = c.args in
+    let s = c.in_ok-mesh.ensures.same in
+    replied (pair_order a.n a.table.now a.a a.b) (PairStanding (linked a.table.now) a.n a.a a.b) _
+    (first_go (table_order a.n a.table.now) (PAIR a.n a.a a.b ∷ ROWS_AT_ALL a.n a.table.now ∷ []) _ (table_numbered a.n a.table.now) c.in_ok-mesh.ensures.refused
+    (own_last a.n a.table.now (PAIR a.n a.a a.b) _ c.in_ok-test_pair.ensures)) (rw (s.0, s.1) at c.smaller-least.ensures)

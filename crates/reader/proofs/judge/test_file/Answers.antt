@@ -1,41 +1,27 @@
-use mathlib.Core.List.{List, [], ◌∷◌}
-use mathlib.Core.Path.{◌≡◌, ap, subst}
-use Prim.Native.Nat.{ℕ, ◌+◌, ◌*◌, ◌≤◌}
+use mathlib.Core.List.{[], ◌∷◌}
 use native.Mathlib.Omega.{arith}
-use lib.ListN.{length}
-use Rattle.card.specs.Card.{FirstFailing, verdict}
-use Rattle.records.specs.Lines.{MARK}
-use Rattle.records.specs.Survey.{stations, records}
-use Rattle.reader.proofs.Tests.{Counted, counts, mark_passed, counts_passed, order_rest}
-use Rattle.reader.proofs.judge.test_file.Goals.{In-Passed, In-Passed-counts}
+use Rattle.card.specs.Card.{number_of, FirstFailing}
+use Rattle.card.proofs.Card.{first_exit, first_and}
+use Rattle.records.specs.Lines.{ROOM, SERIAL, LINK}
+use Rattle.reader.proofs.Tests.{rest, order_rest}
+use Rattle.reader.proofs.judge.test_file.Goals.{After-and}
 use Rattle.reader.proofs.judge.test_file.Goals as goal
 
--- the bytes, and what the first two steps say where they passed
-module _ (c : In-Passed) where
-  abbrev bytes : List ℕ
-  bytes = c.args.bytes.now
+-- what the tests of the room and of the records come to
+both : (c : After-and) → FirstFailing (rest c.args.bytes.now c.in_ok-heading.heading.stations c.in_ok-heading.heading.links c.args.serials c.args.words) (number_of c.and.result)
+both c =
+    let bs = c.args.bytes.now in
+    let n = c.in_ok-heading.heading.stations in
+    let m = c.in_ok-heading.heading.links in
+    rw c.and.ensures (first_and (ROOM n c.args.serials c.args.words ∷ []) (SERIAL n bs ∷ LINK n m bs ∷ []) c.test_room.result c.test_records.result (omega arith, tt) c.test_room.ensures c.test_records.ensures)
 
-  marked : FirstFailing (MARK bytes ∷ []) 0
-  marked = subst (FirstFailing (MARK bytes ∷ [])) (ap verdict c.in-Passed.is) c.test_mark-mark.ensures
+pub returns-in_err-and-clause-tested : goal.returns-in_err-and-clause-tested
+returns-in_err-and-clause-tested c =
+    order_rest c.args.bytes.now c.in_ok-heading.heading c.args.serials c.args.words _ c.in_ok-test_mark.ensures c.in_ok-heading.ensures.tested c.in_ok-heading.ensures.heads
+    (first_exit (rest c.args.bytes.now c.in_ok-heading.heading.stations c.in_ok-heading.heading.links c.args.serials c.args.words) [] _ _ c.from_residual-in_err-and.ensures.1
+    (rw c.in_err-and.was at (both (goal.at.returns-in_err-and-clause-tested c).After-and)))
 
-  long : 9 ≤ length bytes
-  long = (mark_passed bytes marked).0
-
-at_least : {x : ℕ} → 9 ≤ x → 7 ≤ x
-at_least h = omega arith
-
-fits : {bs : List ℕ} {n m : ℕ} → Counted bs → n ≡ stations bs → m ≡ records bs → (n ≤ 256) × (9 + n * 4 + m * 4 ≤ length bs)
-fits C p q = (omega (arith, C.few), omega (arith, C.whole))
-
-counted : (c : In-Passed-counts) → FirstFailing (counts (bytes (goal.at.In-Passed-counts c).In-Passed)) 0
-counted c = subst (FirstFailing (counts (bytes (goal.at.In-Passed-counts c).In-Passed))) (ap verdict c.in-Passed-counts.is) c.test_counts-counts.ensures
-
-measured : (c : In-Passed-counts) → Counted (bytes (goal.at.In-Passed-counts c).In-Passed)
-measured c = counts_passed (bytes (goal.at.In-Passed-counts c).In-Passed) (counted c)
-
-pub returns : goal.returns
-returns c =
-    let e = (goal.at.returns c).In-Passed-counts in
-    let s = c.args in
-    order_rest s.bytes.now s.serials s.words _ _ _ _ _ (marked (goal.at.returns c).In-Passed) (counted e)
-    c.short_at-n.ensures.0 c.short_at-m.ensures.0 c.test_room-room.ensures c.test_records-of_records.ensures c.then.ensures
+pub returns-clause-tested : goal.returns-clause-tested
+returns-clause-tested c =
+    order_rest c.args.bytes.now c.in_ok-heading.heading c.args.serials c.args.words _ c.in_ok-test_mark.ensures c.in_ok-heading.ensures.tested c.in_ok-heading.ensures.heads
+    (rw c.in_ok-and.was at (both (goal.at.returns-clause-tested c).After-and))
