@@ -10,13 +10,13 @@ use lib.Bits.{bit_and}
 use lib.Dec.{ltb, eqb}
 use lib.ListN.{length, get_or, get_or-eq_default}
 use borrow.Author.Tests.{eq-eqb, ne_eqb, ltb-false, le-ltb}
-use Rattle.stations.specs.Sets.{Set, ◌is_in◌, ◌not_in◌, ◌part_of◌}
-use Rattle.stations.specs.Answers.{Taken}
+use Rattle.stations.specs.Sets.{Set, ◌is_in◌}
+use Rattle.stations.specs.Answers.{BitTaken}
 use Rattle.stations.specs.Words.{bit, has, row}
 use Rattle.stations.proofs.Bools.{test, never, not_true, not_so, and_left, and_right, and_whole}
 use Rattle.stations.proofs.Counting.{any_below}
 use Rattle.stations.proofs.Bit.{bit_test, bit-none}
-use Rattle.stations.proofs.Laws.{row_word, has_small, has_beyond}
+use Rattle.stations.proofs.Laws.{row_word, has_at, has_small, has_beyond}
 use Rattle.mesh.specs.Table.{linked, Table, Fault, self_link, one_sided, from_n_up}
 use Rattle.card.specs.Tests.{MirroredRow, RowFault}
 use Rattle.card.specs.Card.{Says, FirstFailing, SET}
@@ -30,25 +30,55 @@ pub linked_no : (t : List ℕ) (v i : ℕ) → i < 256 → (bit_and (get_or t (v
 linked_no t v i h e = row_word t v i h ∙ sym (bit_test (get_or t (v * 4 + i / 64) 0) (i % 64)) ∙ ne_eqb (bit_and (get_or t (v * 4 + i / 64) 0 / 2 ^ (i % 64)) 1) 1 e
 
 -- ---- the walk over the stations of row i: those past have i in their rows, and `left` are still to come
-pub record Mirroring (t : List ℕ) (i : ℕ) (row left : Set) : Type 0 where
-  pub mine : left part_of row
-  pub past : (j : ℕ) → j is_in row → j not_in left → linked t j i ≡ true
+-- the stations of the row in the words before word q
+pub record Mirroring (t : List ℕ) (i : ℕ) (row : Set) (q : ℕ) : Type 0 where
+  pub past : (j : ℕ) → j < q * 64 → j is_in row → linked t j i ≡ true
 
-pub mirroring_none : (t : List ℕ) (i : ℕ) (row : Set) → Mirroring t i row row
-mirroring_none t i row = record { mine = λ j e. e; past = λ j e f. never (row j) e f }
+-- and those of word q, where w has the bits that are still to come
+pub record Looking (t : List ℕ) (i q word w : ℕ) : Type 0 where
+  pub mine : (k : ℕ) → bit w k ≡ true → bit word k ≡ true
+  pub seen : (k : ℕ) → bit word k ≡ true → bit w k ≡ false → linked t (q * 64 + k) i ≡ true
 
-pub mirroring_more : {t : List ℕ} {i j : ℕ} {row left left' : Set} → Mirroring t i row left → Taken left j left' → linked t j i ≡ true → Mirroring t i row left'
-mirroring_more {t} {i} {j} {row} {left} {left'} g p e = record { mine = λ x m. g.mine x (and_left (left x) (not (eqb x j)) (sym (p.rest x) ∙ m)); past = λ x m f. go x m f (ℕ_discrete x j) }
+pub mirroring_none : (t : List ℕ) (i : ℕ) (row : Set) → Mirroring t i row 0
+mirroring_none t i row = record { past = λ j l m. absurd (omega arith) }
+
+pub looking_none : (t : List ℕ) (i q word : ℕ) → Looking t i q word word
+looking_none t i q word = record { mine = λ k e. e; seen = λ k e f. never (bit word k) e f }
+
+pub looking_more : {t : List ℕ} {i q k word w w' : ℕ} → Looking t i q word w → BitTaken w k w' → linked t (q * 64 + k) i ≡ true → Looking t i q word w'
+looking_more {t} {i} {q} {k} {word} {w} {w'} g p e = record {
+  mine = λ x m. g.mine x (and_left (bit w x) (not (eqb x k)) (sym (p.rest x) ∙ m));
+  seen = λ x m f. go x m f (ℕ_discrete x k);
+}
   where
-    go : (x : ℕ) → x is_in row → x not_in left' → Dec (x ≡ j) → linked t x i ≡ true
-    go x m f (yes q) = rw q e
-    go x m f (no d) = g.past x m (sym (and_whole (left x)) ∙ ap (λ (b : Bool). left x && not b) (sym (ne_eqb x j d)) ∙ sym (p.rest x) ∙ f)
+    go : (x : ℕ) → bit word x ≡ true → bit w' x ≡ false → Dec (x ≡ k) → linked t (q * 64 + x) i ≡ true
+    go x m f (yes d) = rw d e
+    go x m f (no d) = g.seen x m (sym (and_whole (bit w x)) ∙ ap (λ (b : Bool). bit w x && not b) (sym (ne_eqb x k d)) ∙ sym (p.rest x) ∙ f)
 
-pub mirrored_all : {t : List ℕ} {i : ℕ} {row left : Set} → Mirroring t i row left → ((x : ℕ) → x not_in left) → MirroredRow t i row true
-mirrored_all g z = record { each = λ _ j m. g.past j m (z j); one = λ e. never true refl e }
+-- a bit of word q is a station of the row
+pub word_station : (ws : List ℕ) (q k : ℕ) → k < 64 → has ws (q * 64 + k) ≡ bit (get_or ws q 0) k
+word_station ws q k l = has_at ws (q * 64 + k) q k (omega arith) (omega arith)
 
-pub mirrored_one : {t : List ℕ} {i j : ℕ} {row left : Set} → Mirroring t i row left → j is_in left → linked t j i ≡ false → MirroredRow t i row false
-mirrored_one {j = j} g m f = record { each = λ e. never false e refl; one = λ _. (j, g.mine j m, f) }
+pub mirroring_word : {t : List ℕ} {i q word w : ℕ} (ws : List ℕ) → word ≡ get_or ws q 0 → Mirroring t i (has ws) q → Looking t i q word w → ((k : ℕ) → bit w k ≡ false)
+    → Mirroring t i (has ws) (q + 1)
+mirroring_word {t} {i} {q} {word} {w} ws e g p z = record { past = λ j l m. go j l m (dec_lt j (q * 64)) }
+  where
+    go : (j : ℕ) → j < (q + 1) * 64 → has ws j ≡ true → Dec (j < q * 64) → linked t j i ≡ true
+    go j l m (yes h) = g.past j h m
+    go j l m (no h) =
+        let f : q * 64 + j % 64 ≡ j = omega arith in
+        let b : bit word (j % 64) ≡ true = ap (λ (x : ℕ). bit x (j % 64)) e ∙ sym (word_station ws q (j % 64) (omega arith)) ∙ ap (has ws) f ∙ m in
+        rw f at (p.seen (j % 64) b (z (j % 64)))
+
+pub mirrored_all : {t : List ℕ} {i : ℕ} (ws : List ℕ) (q : ℕ) → length ws ≡ 4 → 4 ≤ q → Mirroring t i (has ws) q → MirroredRow t i (has ws) true
+mirrored_all ws q l h g = record { each = λ _ j m. g.past j (omega (arith, has_small ws j l m)) m; one = λ e. never true refl e }
+
+pub mirrored_one : {t : List ℕ} {i q k word w w' : ℕ} (ws : List ℕ) → word ≡ get_or ws q 0 → Looking t i q word w → BitTaken w k w' → linked t (q * 64 + k) i ≡ false
+    → MirroredRow t i (has ws) false
+mirrored_one {q = q} {k = k} ws e p b f = record {
+  each = λ x. never false x refl;
+  one = λ _. (q * 64 + k, word_station ws q k b.small ∙ ap (λ (x : ℕ). bit x k) (sym e) ∙ p.mine k b.mine, f);
+}
 
 -- ---- a row, and all rows
 pub row_self : (n : ℕ) (t : List ℕ) (a : ℕ) → linked t a a ≡ true → Says (RowFault n t a) true

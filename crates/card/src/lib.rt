@@ -9,7 +9,7 @@ ghost use Rattle.card.specs.Card.{number, number_of, FirstFailing, Says, LEVEL, 
 ghost use Rattle.card.specs.Tests.{MirroredRow, RowFault};
 
 pub use accepted::Mesh;
-use stations::StationSet;
+use stations::{Bits, StationSet};
 
 mod accepted;
 
@@ -121,14 +121,20 @@ pub fn test_set(n: usize, set: &[u64]) -> Result<(), Refusal>
     Ok(())
 }
 
-// Does each station of the row have station i in its own row?
+// Does each station of the row have station i in its own row? Each question tests its table so: going over words and their bits takes half the time of
+// going over the row's stations.
 fn mirrored(table: &[u64], i: usize, row: StationSet) -> bool
     requires { (i < 256) × Fits table.now (members row) }
     ensures { MirroredRow table.now i (members row) result }
 {
-    for j in row {
-        if table[j * 4 + i / 64] >> (i % 64) & 1 != 1 {
-            return false;
+    let words = row.words();
+    for (q, word) in words.iter().enumerate() {
+        let bits = Bits { word: *word };
+        for k in bits {
+            let j = q * 64 + k;
+            if table[j * 4 + i / 64] >> (i % 64) & 1 != 1 {
+                return false;
+            }
         }
     }
     true

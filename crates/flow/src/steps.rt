@@ -6,7 +6,7 @@ ghost use Rattle.mesh.specs.Table.{Fits};
 ghost use Rattle.flow.specs.Net.{net_of};
 ghost use Rattle.flow.specs.Search.{SomeOf, Marked, Idle, Held, Searched, Start, Turned};
 
-use stations::StationSet;
+use stations::{Bits, StationSet};
 
 // A station of `todo`, an end if there is one.
 fn choose(todo: StationSet, ends: StationSet) -> Option<usize>
@@ -19,11 +19,11 @@ fn choose(todo: StationSet, ends: StationSet) -> Option<usize>
 fn mark(from: &mut [u8; 256], s: StationSet, g: u8)
     ensures { Marked from.old (members s) g from.new }
 {
-    for (i, word) in [s.a, s.b, s.c, s.d].iter().enumerate() {
-        let mut x = *word;
-        while x != 0 {
-            from[i * 64 + stations::low_bit(x)] = g;
-            x &= x - 1;
+    let words = s.words();
+    for (i, word) in words.iter().enumerate() {
+        let bits = Bits { word: *word };
+        for k in bits {
+            from[i * 64 + k] = g;
         }
     }
 }

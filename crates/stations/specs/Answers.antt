@@ -2,7 +2,7 @@
 use Rattle.std.specs.Prelude.{Bool, true, false, List, [], ◌≡◌, ℕ, ◌<◌, length, Option, Some, None}
 use Rattle.std.specs.Borrow.{Bor}
 use Rattle.stations.specs.Sets.{Set, ◌is_in◌, ◌not_in◌, ◌without◌, only, Before}
-use Rattle.stations.specs.Words.{has}
+use Rattle.stations.specs.Words.{bit, has}
 
 -- j is the smallest station of the set
 pub record Least (s : Set) (j : ℕ) : Type 0 where
@@ -24,6 +24,18 @@ pub record Taken (s : Set) (j : ℕ) (t : Set) : Type 0 where
 abbrev pub Popped : Set → Option ℕ → Set → Type 0
 Popped s (Some j) t = Taken s j t
 Popped s None t = ((x : ℕ) → x not_in s) × ((x : ℕ) → x not_in t)
+
+-- k is the lowest set bit of the word w, and w' has the others
+pub record BitTaken (w k w' : ℕ) : Type 0 where
+  pub small : k < 64
+  pub mine : bit w k ≡ true
+  pub below : (j : ℕ) → j < k → bit w j ≡ false
+  pub rest : (j : ℕ) → bit w' j ≡ (bit w without only k) j
+
+-- the lowest set bit taken out of w, which leaves w'; or none, of a word without one
+abbrev pub BitPopped : ℕ → Option ℕ → ℕ → Type 0
+BitPopped w (Some k) w' = BitTaken w k w'
+BitPopped w None w' = ((j : ℕ) → bit w j ≡ false) × ((j : ℕ) → bit w' j ≡ false)
 
 -- the set is empty, as r says
 pub record Emptiness (s : Set) (r : Bool) : Type 0 where

@@ -7,7 +7,7 @@ ghost use Rattle.std.specs.Iterator.{at_most};
 ghost use Rattle.std.specs.Int.Count.{ones, count_trailing_zeros};
 ghost use Rattle.stations.specs.Sets.{none, only, stations, size, ◌joined◌, ◌cut◌, ◌without◌};
 ghost use Rattle.stations.specs.Words.{bit, words, members, row, put_row};
-ghost use Rattle.stations.specs.Answers.{FirstOf, Popped, Emptiness, Sameness, Order, FirstRow};
+ghost use Rattle.stations.specs.Answers.{FirstOf, Popped, BitPopped, Emptiness, Sameness, Order, FirstRow};
 
 #[derive(Clone, Copy, PartialEq, Eq)]
 pub struct StationSet {
@@ -42,17 +42,17 @@ fn low_in(i: usize, n: usize) -> u64
 }
 
 // The place of the lowest set bit, 64 where there is none.
-pub fn low_bit(w: u64) -> usize
+fn low_bit(w: u64) -> usize
     ensures { (result ≡ count_trailing_zeros 64 w) × (result ≤ 64) }
 {
-    u64::trailing_zeros(w) as usize
+    w.trailing_zeros() as usize
 }
 
 // How many bits are set.
 fn ones_of(w: u64) -> usize
     ensures { (result ≡ ones w) × (result ≤ 64) }
 {
-    u64::count_ones(w) as usize
+    w.count_ones() as usize
 }
 
 impl StationSet {
@@ -129,6 +129,13 @@ impl StationSet {
         } else {
             0
         }
+    }
+
+    // Its words, the lowest stations first.
+    pub fn words(self) -> [u64; 4]
+        ensures { result ≡ words self }
+    {
+        [self.a, self.b, self.c, self.d]
     }
 
     pub fn has(self, j: usize) -> bool
@@ -303,6 +310,29 @@ impl IntoIterator for StationSet {
 
     fn into_iter(self) -> Stations {
         Stations { left: self }
+    }
+}
+
+// The set bits of a word, rising. Where many sets are gone over, a loop over their words and these is faster than one over the stations.
+#[derive(Clone, Copy)]
+pub struct Bits {
+    pub word: u64,
+}
+
+impl Iterator for Bits {
+    type Item = usize;
+
+    ghost next_gives = { λ s r t. BitPopped s.word r t.word };
+
+    ghost remaining = { λ s. at_most (size 64 (bit s.word)) };
+
+    fn next(&mut self) -> Option<usize> {
+        if self.word == 0 {
+            return None;
+        }
+        let k = low_bit(self.word);
+        self.word &= self.word - 1;
+        Some(k)
     }
 }
 

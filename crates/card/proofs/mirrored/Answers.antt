@@ -1,22 +1,42 @@
+use mathlib.Core.Bool.{true}
+use mathlib.Core.Path.{◌≡◌, refl}
+use Prim.Native.Nat.{◌+◌, ◌*◌}
 use native.Mathlib.Omega.{arith}
-use Rattle.stations.specs.Words.{members}
-use Rattle.card.proofs.TableTest.{mirroring_none, mirroring_more, mirrored_all, mirrored_one, linked_yes, linked_no}
+use lib.ListN.{get_or}
+use Rattle.stations.specs.Sets.{◌is_in◌}
+use Rattle.stations.specs.Words.{bit, members}
+use Rattle.stations.proofs.Laws.{of_word}
+use Rattle.card.proofs.TableTest.{mirroring_none, mirroring_word, looking_none, looking_more, mirrored_all, mirrored_one, linked_yes, linked_no}
+use Rattle.card.proofs.mirrored.Goals.{In-Some}
 use Rattle.card.proofs.mirrored.Goals as goal
 
-pub loop-j-init : goal.loop-j-init
-loop-j-init c = rw c.into_iter-j-iterator.ensures.into_iter_gives (mirroring_none c.args.table.now c.args.i (members c.args.row))
+-- the station that is looked at
+mine : (c : In-Some) → (c.loop-q.q * 64 + c.in-Some.k) is_in members c.args.row
+mine c =
+    let b : bit (get_or c.words-words.result c.loop-q.q 0) c.in-Some.k ≡ true = c.loop-k.invariant.mine c.in-Some.k c.in-Some.ensures.steps.mine in
+    rw c.words-words.ensures at (of_word c.words-words.result c.loop-q.q (c.loop-q.q * 64) c.in-Some.k refl c.in-Some.ensures.steps.small b)
+
+pub loop-q-init : goal.loop-q-init
+loop-q-init c = mirroring_none _ _ _
+
+pub loop-k-init : goal.loop-k-init
+loop-k-init c = rw c.into_iter-k-iterator.ensures.into_iter_gives (looking_none _ _ _ _)
 
 pub bounds-table-j : goal.bounds-table-j
-bounds-table-j c =
-    let least = c.in-Some.ensures.steps.least in
-    omega (arith, c.requires.0, c.requires.1 c.in-Some.j (c.loop-j.invariant.mine c.in-Some.j least.mine))
+bounds-table-j c = omega (arith, c.requires.0, c.requires.1 (c.loop-q.q * 64 + c.in-Some.k) (mine (goal.at.bounds-table-j c).In-Some))
 
 pub returns-then-table-j-ne1 : goal.returns-then-table-j-ne1
-returns-then-table-j-ne1 c =
-    mirrored_one c.loop-j.invariant c.in-Some.ensures.steps.least.mine (linked_no c.args.table.now c.in-Some.j c.args.i c.requires.0 c.if-table-j-ne1.true)
+returns-then-table-j-ne1 c = rw c.words-words.ensures at (
+    mirrored_one c.words-words.result refl c.loop-k.invariant c.in-Some.ensures.steps
+    (linked_no c.args.table.now (c.loop-q.q * 64 + c.in-Some.k) c.args.i c.requires.0 c.if-table-j-ne1.true)
+    )
 
-pub loop-j-preserved : goal.loop-j-preserved
-loop-j-preserved c = mirroring_more c.loop-j.invariant c.in-Some.ensures.steps (linked_yes c.args.table.now c.in-Some.j c.args.i c.requires.0 c.if-table-j-ne1.false)
+pub loop-k-preserved : goal.loop-k-preserved
+loop-k-preserved c = looking_more c.loop-k.invariant c.in-Some.ensures.steps
+    (linked_yes c.args.table.now (c.loop-q.q * 64 + c.in-Some.k) c.args.i c.requires.0 c.if-table-j-ne1.false)
+
+pub loop-q-preserved : goal.loop-q-preserved
+loop-q-preserved c = mirroring_word c.words-words.result refl c.loop-q.invariant c.loop-k.invariant c.in-None.ensures.steps.0
 
 pub returns : goal.returns
-returns c = mirrored_all c.loop-j.invariant c.in-None.ensures.steps.0
+returns c = rw c.words-words.ensures at (mirrored_all c.words-words.result c.loop-q.q (rw c.words-words.ensures refl) c.loop-q-test.false c.loop-q.invariant)

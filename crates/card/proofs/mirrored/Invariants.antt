@@ -1,6 +1,10 @@
-use Rattle.stations.specs.Words.{members}
-use Rattle.card.proofs.TableTest.{Mirroring}
+use lib.ListN.{get_or}
+use Rattle.stations.specs.Words.{has}
+use Rattle.card.proofs.TableTest.{Mirroring, Looking}
 use Rattle.card.proofs.mirrored.Given as goal
 
-abbrev pub invariant-loop-j : goal.invariant-loop-j
-invariant-loop-j l = Mirroring l.table l.i (members l.fn.row) (members l.j-iterator.left)
+abbrev pub invariant-loop-q : goal.invariant-loop-q
+invariant-loop-q l = Mirroring l.table l.i (has l.word-items) l.q
+
+abbrev pub invariant-loop-k : goal.invariant-loop-k
+invariant-loop-k l = Looking l.table l.i l.q (get_or l.word-items l.q 0) l.k-iterator.word

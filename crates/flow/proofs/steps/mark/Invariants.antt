@@ -7,8 +7,5 @@ abbrev pub invariant-loop-i : goal.invariant-loop-i
 invariant-loop-i l = Marking l.fn.from l.fn.s l.fn.g l.i l.from
 
 -- the loop over the bits of a word
-abbrev pub invariant-loop-x : goal.invariant-loop-x
-invariant-loop-x l = MarkingWord l.fn.from l.fn.s l.fn.g l.i l.from l.x
-
-abbrev pub decreases-loop-x : goal.decreases-loop-x
-decreases-loop-x l = l.x
+abbrev pub invariant-loop-k : goal.invariant-loop-k
+invariant-loop-k l = MarkingWord l.fn.from l.fn.s l.fn.g l.i l.from l.k-iterator.word

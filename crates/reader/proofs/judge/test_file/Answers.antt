@@ -1,8 +1,9 @@
-use mathlib.Core.List.{[], ◌∷◌}
+use mathlib.Core.List.{List, [], ◌∷◌}
 use native.Mathlib.Omega.{arith}
-use Rattle.card.specs.Card.{number_of, FirstFailing}
-use Rattle.card.proofs.Card.{first_exit, first_and}
-use Rattle.records.specs.Lines.{ROOM, SERIAL, LINK}
+use Rattle.card.specs.Card.{Test, number_of, FirstFailing}
+use Rattle.card.proofs.Card.{first_exit, first_go, first_and}
+use Rattle.records.specs.Lines.{MARK, VERSION, COUNT, LENGTH, ROOM, SERIAL, LINK}
+use Rattle.records.specs.Survey.{stations, records}
 use Rattle.reader.proofs.Tests.{rest, order_rest}
 use Rattle.reader.proofs.judge.test_file.Goals.{After-and}
 use Rattle.reader.proofs.judge.test_file.Goals as goal
@@ -14,6 +15,13 @@ both c =
     let n = c.in_ok-heading.heading.stations in
     let m = c.in_ok-heading.heading.links in
     rw c.and.ensures (first_and (ROOM n c.args.serials c.args.words ∷ []) (SERIAL n bs ∷ LINK n m bs ∷ []) c.test_room.result c.test_records.result (omega arith, tt) c.test_room.ensures c.test_records.ensures)
+
+pub returns-in_err-heading-clause-tested : goal.returns-in_err-heading-clause-tested
+returns-in_err-heading-clause-tested c =
+    let bs = c.args.bytes.now in
+    let last : List Test = rest bs (stations bs) (records bs) c.args.serials c.args.words in
+    first_go (MARK bs ∷ []) (VERSION bs ∷ COUNT bs ∷ LENGTH bs ∷ last) _ (omega arith, tt) c.in_ok-test_mark.ensures
+    (first_exit (VERSION bs ∷ COUNT bs ∷ LENGTH bs ∷ []) last _ _ c.from_residual-in_err-heading.ensures.1 c.in_err-heading.ensures.tested)
 
 pub returns-in_err-and-clause-tested : goal.returns-in_err-and-clause-tested
 returns-in_err-and-clause-tested c =
