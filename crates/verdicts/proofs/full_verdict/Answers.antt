@@ -5,4 +5,4 @@ use Rattle.verdicts.proofs.full_verdict.Goals as goal
 
 -- `verdicts::full_verdict` meets its contract.
 pub returns-in-None : goal.returns-in-None
-returns-in-None c = safe_holds (below c.args.p) (omega arith) c.in-None.ensures
+returns-in-None c = safe_holds (below c.args.piece.stations) (omega arith) c.in-None.ensures

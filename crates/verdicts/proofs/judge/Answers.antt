@@ -5,4 +5,4 @@ use Rattle.verdicts.proofs.judge.Goals as goal
 
 -- `verdicts::judge` meets its contract.
 pub returns-in-None : goal.returns-in-None
-returns-in-None c = safe_holds (below c.args.p) (omega arith) c.in-None.ensures
+returns-in-None c = safe_holds (below c.args.piece.stations) (omega arith) c.in-None.ensures

@@ -1,10 +1,10 @@
 use mathlib.Core.Path.{refl}
 use Rattle.stations.proofs.Laws.{has_small}
 use Rattle.pairs.proofs.Links.{count_links, leading_take, leading_pass}
-use Rattle.pairs.proofs.fewest.Goals as goal
+use Rattle.pairs.proofs.Piece.fewest.Goals as goal
 
 pub without-v-items-requires : goal.without-v-items-requires
-without-v-items-requires c = has_small _ _ refl c.requires.1
+without-v-items-requires c = has_small _ _ refl c.requires
 
 pub loop-v-preserved-then-links-best : goal.loop-v-preserved-then-links-best
 loop-v-preserved-then-links-best c = leading_take _ _ _ _ _ c.loop-v.invariant c.in-Some.v _ _ c.in-Some.ensures.steps.least.mine

@@ -1,8 +1,0 @@
-use Rattle.stations.specs.Words.{members}
-use Rattle.mesh.specs.Table.{linked}
-use Rattle.pairs.proofs.Links.{Leading}
-use Rattle.pairs.proofs.fewest.Given as goal
-
--- `pairs::fewest` meets its contract.
-abbrev pub invariant-loop-v : goal.invariant-loop-v
-invariant-loop-v l = Leading (linked l.table) (members l.p) l.at l.best (members l.v-iterator.left)
