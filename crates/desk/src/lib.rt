@@ -9,7 +9,7 @@ ghost use Rattle.desk.specs.Desk.{FirstRowDesk, RoutesDesk, HoldingDesk, Verdict
 
 use card::Refusal;
 use stations::StationSet;
-use verdicts::Verdict;
+use verdicts::Answer;
 
 // The order question: 0 where the first row comes first, 1 where the second does. The reply is the first `words` words of that row: all four, or
 // none where one of the two rows hasn't four words.
@@ -52,11 +52,11 @@ pub extern "C" fn desk_routes(
 }
 
 // The weak set of a reply, or the empty set.
-fn weak_set(reply: Result<Verdict<StationSet>, Refusal>) -> StationSet
+fn weak_set(reply: Result<Answer<StationSet>, Refusal>) -> StationSet
     ensures { (x : ℕ) → members result x ≡ weak_set reply x }
 {
     match reply {
-        Ok(Verdict::Weak(s)) => s,
+        Ok(Answer::Weak(s)) => s,
         _ => StationSet::empty(),
     }
 }
@@ -163,7 +163,11 @@ pub extern "C" fn desk_read(
 {
     let reply = reader::read(bytes, serials, table);
     (*version, *n, *links) = match reply {
-        Ok(heading) => (heading.version as u64, heading.stations as u64, heading.links as u64),
+        Ok(heading) => (
+            heading.version as u64,
+            heading.stations as u64,
+            heading.links as u64,
+        ),
         Err(_) => (0, 0, 0),
     };
     card::number_of(&reply)

@@ -16,7 +16,7 @@ use Rattle.mesh.proofs.OnlyOne.{answer_one}
 use Rattle.card.specs.Card.{number_of, FirstFailing, LEVEL, LIST_ROOM, ROWS}
 use Rattle.card.proofs.Card.{number_above, none_given, table_passes, level_passes, rows_pass}
 use Rattle.card.proofs.TableTest.{table_mesh}
-use Rattle.verdicts.specs.declared.Verdict.TheVariants.{Holds, Few, Weak}
+use Rattle.verdicts.specs.declared.Answer.TheVariants.{Holds, Few, Weak}
 use Rattle.holding.specs.Reply as holding
 use Rattle.holding.proofs.Demands.{answers as holding_answers}
 use Rattle.mesh.proofs.Covered.{covered}

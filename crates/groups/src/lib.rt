@@ -5,7 +5,7 @@ ghost use Rattle.groups.specs.Reply.{Replies, RowReplies};
 
 use card::{Mesh, Refusal};
 use stations::StationSet;
-use verdicts::Verdict;
+use verdicts::Answer;
 
 // The list question. Refusals in the order 2, 3, 4, 1, 5, each decided before the first store.
 pub fn groups(n: usize, table: &[u64], k: usize, list: &mut [u64]) -> Result<usize, Refusal>
@@ -26,7 +26,7 @@ pub fn holding_at(
     k: usize,
     list: &[u64],
     i: usize,
-) -> Result<Verdict<StationSet>, Refusal>
+) -> Result<Answer<StationSet>, Refusal>
     ensures { RowReplies n table.now k list.now i result }
 {
     if list.len() / 4 <= i {

@@ -17,7 +17,7 @@ use Rattle.mesh.specs.Table.{linked, Table}
 use Rattle.mesh.proofs.OnlyOne.{answer_one}
 use Rattle.card.specs.Card.{number_of, LEVEL, SET}
 use Rattle.card.proofs.Card.{first_one, none_given, number_above, table_passes, level_passes}
-use Rattle.verdicts.specs.declared.Verdict.TheVariants.{Holds, Few, Weak}
+use Rattle.verdicts.specs.declared.Answer.TheVariants.{Holds, Few, Weak}
 use Rattle.holding.specs.Reply.{Full, Brief, verdict, weak_set, order, Replies, Judges}
 
 abbrev code : Reply → ℕ

@@ -23,8 +23,8 @@ use Rattle.card.proofs.Card.{Passes, table_passed, number_above}
 use Rattle.card.proofs.TableTest.{table_mesh}
 use Rattle.pairs.specs.Piece.{Piece}
 use Rattle.verdicts.specs.Verdicts.{reply, JudgedOf}
-use Rattle.verdicts.specs.declared.Verdict.{Verdict}
-use Rattle.verdicts.specs.declared.Verdict.TheVariants.{Holds, Few, Weak}
+use Rattle.verdicts.specs.declared.Answer.{Answer}
+use Rattle.verdicts.specs.declared.Answer.TheVariants.{Holds, Few, Weak}
 use Rattle.holding.specs.Reply.{order, Right, Replies, Judges}
 use Rattle.holding.specs.Steps.{alone}
 
@@ -68,7 +68,7 @@ module _ (n : ℕ) (t : List ℕ) (k : ℕ) (s : List ℕ) (A : Accepted n t k s
     mesh = table_mesh A.table;
   }
 
-  pub told : (v : Verdict StationSet) → Answers (linked t) 256 k (members p) (reply v) → Answers (linked t) n k (has s) (reply v)
+  pub told : (v : Answer StationSet) → Answers (linked t) 256 k (members p) (reply v) → Answers (linked t) n k (has s) (reply v)
   told v a = answers_to (linked t) n 256 k A.table.few (has s) A.below (reply v) (subst (λ (x : Set). Answers (linked t) 256 k x (reply v)) (sym mine) a)
 
   pub judged_holds : Answers (linked t) 256 k (members p) HOLDS → Answers (linked t) n k (has s) HOLDS
@@ -85,15 +85,15 @@ module _ (n : ℕ) (t : List ℕ) (k : ℕ) (s : List ℕ) (A : Accepted n t k s
 
 -- the reply of a question that passed, and of one that did not
 module _ (n : ℕ) (t : List ℕ) (k : ℕ) (s : List ℕ) (f : FirstFailing (order n t k s) 0) (p : StationSet) (own : words p ≡ row s 0) where
-  pub replied : (v : Verdict StationSet) → Answers (linked t) 256 k (members p) (reply v) → Replies n t k s (Ok v)
+  pub replied : (v : Answer StationSet) → Answers (linked t) 256 k (members p) (reply v) → Replies n t k s (Ok v)
   replied v a = record { refused = f; right = λ _. right v (told n t k s (passed n t k s f) p own v a) }
     where
-      right : (v : Verdict StationSet) → Answers (linked t) n k (has s) (reply v) → Right (linked t) n k (has s) (Ok v)
+      right : (v : Answer StationSet) → Answers (linked t) n k (has s) (reply v) → Right (linked t) n k (has s) (Ok v)
       right Holds a = a
       right Few a = a
       right (Weak q) a = a
 
-  pub judged_reply : (v : Verdict StationSet) → JudgedOf (linked t) k (members p) v → Judges n t k s (Ok (alone v))
+  pub judged_reply : (v : Answer StationSet) → JudgedOf (linked t) k (members p) v → Judges n t k s (Ok (alone v))
   judged_reply Holds a = record { refused = f; right = λ _. judged_holds n t k s (passed n t k s f) p own a }
   judged_reply Few a = record { refused = f; right = λ _. judged_few n t k s (passed n t k s f) p own a }
   judged_reply (Weak q) a = record { refused = f; right = λ _. judged_weak n t k s (passed n t k s f) p own (members q) a }

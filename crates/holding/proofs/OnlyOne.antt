@@ -15,7 +15,7 @@ use Rattle.mesh.specs.Table.{linked}
 use Rattle.mesh.proofs.OnlyOne.{answer_one}
 use Rattle.card.specs.Card.{number_of}
 use Rattle.card.proofs.Card.{first_one, refusal_one, number_above}
-use Rattle.verdicts.specs.declared.Verdict.TheVariants.{Holds, Few, Weak}
+use Rattle.verdicts.specs.declared.Answer.TheVariants.{Holds, Few, Weak}
 use Rattle.holding.specs.Reply.{Full, Brief, verdict, weak_set, Right, order, Replies, RightBriefly, Judges}
 
 -- the words of the reply are below 2 ^ 64

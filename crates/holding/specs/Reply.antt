@@ -12,17 +12,17 @@ use Rattle.mesh.specs.Mesh as mesh
 use Rattle.mesh.specs.Table.{linked}
 use Rattle.card.specs.Card.{number_of, Test, FirstFailing, STATIONS, TABLE_LENGTH, TABLE, LEVEL, SET}
 use Rattle.card.specs.declared.Refusal.{Refusal}
-use Rattle.verdicts.specs.declared.Verdict.{Verdict}
-use Rattle.verdicts.specs.declared.Verdict.TheVariants.{Holds, Few, Weak}
+use Rattle.verdicts.specs.declared.Answer.{Answer}
+use Rattle.verdicts.specs.declared.Answer.TheVariants.{Holds, Few, Weak}
 
 -- what the holding question replies, and what it replies of the verdict alone
 abbrev pub Full : Type 0
-Full = Result (Verdict StationSet) Refusal
+Full = Result (Answer StationSet) Refusal
 
 abbrev pub Brief : Type 0
-Brief = Result (Verdict (Unit {0})) Refusal
+Brief = Result (Answer (Unit {0})) Refusal
 
-abbrev pub verdict : {W : Type 0} → Result (Verdict W) Refusal → ℕ
+abbrev pub verdict : {W : Type 0} → Result (Answer W) Refusal → ℕ
 verdict (Ok Holds) = 0
 verdict (Ok Few) = 1
 verdict (Ok (Weak s)) = 2

@@ -7,8 +7,9 @@ ghost use Rattle.holding.specs.Reply.{verdict, order, Replies, Judges};
 ghost use Rattle.holding.specs.Steps.{alone};
 
 use card::{Mesh, Refusal};
+use pairs::Piece;
 use stations::StationSet;
-use verdicts::Verdict;
+use verdicts::Answer;
 
 // The tests of both questions, in the order 2, 3, 4, 1, 6.
 fn accept<'a>(n: usize, table: &'a [u64], k: usize, set: &[u64]) -> Result<Mesh<'a>, Refusal>
@@ -27,41 +28,49 @@ pub fn holding(
     table: &[u64],
     k: usize,
     set: &[u64],
-) -> Result<Verdict<StationSet>, Refusal>
+) -> Result<Answer<StationSet>, Refusal>
     ensures { Replies n table.now k set.now result }
 {
     let mesh = accept(n, table, k, set)?;
-    let told = verdicts::full_verdict(mesh.table, StationSet::of_row(set, 0), k);
+    let piece = Piece {
+        table: mesh.table,
+        stations: StationSet::of_row(set, 0),
+    };
+    let told = verdicts::verdict(piece, k);
     Ok(told)
 }
 
 // A verdict without the loss that it names.
-fn alone(told: Verdict<StationSet>) -> Verdict<()>
+fn alone(told: Answer<StationSet>) -> Answer<()>
     ensures { result ≡ alone told }
 {
     match told {
-        Verdict::Holds => Verdict::Holds,
-        Verdict::Few => Verdict::Few,
-        Verdict::Weak(_) => Verdict::Weak(()),
+        Answer::Holds => Answer::Holds,
+        Answer::Few => Answer::Few,
+        Answer::Weak(_) => Answer::Weak(()),
     }
 }
 
 // The holding question for the verdict alone: one search.
-pub fn judged(n: usize, table: &[u64], k: usize, set: &[u64]) -> Result<Verdict<()>, Refusal>
+pub fn judged(n: usize, table: &[u64], k: usize, set: &[u64]) -> Result<Answer<()>, Refusal>
     ensures { Judges n table.now k set.now result }
 {
     let asked = accept(n, table, k, set)?;
-    let brief = alone(verdicts::judge(asked.table, StationSet::of_row(set, 0), k));
+    let piece = Piece {
+        table: asked.table,
+        stations: StationSet::of_row(set, 0),
+    };
+    let brief = alone(verdicts::judge(piece, k));
     Ok(brief)
 }
 
 // The verdict of a reply in the numbers of the rules: 0 for HOLDS, 1 for FEW, 2 for WEAK, and 0 for a refusal.
-pub fn verdict_of<W>(reply: &Result<Verdict<W>, Refusal>) -> u64
+pub fn verdict_of<W>(reply: &Result<Answer<W>, Refusal>) -> u64
     ensures { result ≡ verdict reply.now }
 {
     match reply {
-        Ok(Verdict::Few) => 1,
-        Ok(Verdict::Weak(_)) => 2,
+        Ok(Answer::Few) => 1,
+        Ok(Answer::Weak(_)) => 2,
         _ => 0,
     }
 }

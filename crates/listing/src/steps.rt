@@ -5,6 +5,7 @@ ghost use Rattle.listing.specs.Rows.{Kept};
 ghost use Rattle.listing.specs.Steps.{State, Turned};
 
 use crate::{pieces, rows};
+use pairs::Piece;
 use stations::StationSet;
 
 // How far a search is: rows 0 to done - 1 are groups, rows done to all - 1 are unfinished pieces.
@@ -27,7 +28,8 @@ fn turn(table: &[u64], k: usize, list: &mut [u64], from: Stand) -> Stand
         let last = rows::fill(list, g, from.all);
         return Stand { done: g, all: last };
     }
-    match pairs::weak(table, p, k) {
+    let piece = Piece { table, stations: p };
+    match piece.weak(k) {
         None => {
             p.put_row(list, g);
             Stand {

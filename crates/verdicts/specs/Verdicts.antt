@@ -13,8 +13,8 @@ use Rattle.mesh.specs.Table.{linked}
 use Rattle.search.specs.Losses.{every, WeakPair, Smallest, Safe}
 use Rattle.pairs.specs.Piece.{Piece}
 use Rattle.pairs.specs.declared.WeakPair as declared
-use Rattle.verdicts.specs.declared.Verdict.{Verdict}
-use Rattle.verdicts.specs.declared.Verdict.TheVariants.{Holds, Few, Weak}
+use Rattle.verdicts.specs.declared.Answer.{Answer}
+use Rattle.verdicts.specs.declared.Answer.TheVariants.{Holds, Few, Weak}
 
 abbrev pub SmallestOf : List ℕ → StationSet → ℕ → Option declared.WeakPair → Type 0
 SmallestOf t p k None = Safe (linked t) 256 every k (members p)
@@ -46,13 +46,13 @@ pub record Led (t : List ℕ) (p taken : StationSet) (j left : ℕ) (r : Station
   pub leads : Leads t p taken left (members r)
   pub none : j not_in members r → (s : Set) → Leads t p taken left s → j is_in s → ⊥
 
-abbrev pub reply : Verdict StationSet → Reply
+abbrev pub reply : Answer StationSet → Reply
 reply Holds = HOLDS
 reply Few = FEW
 reply (Weak s) = WEAK (members s)
 
 -- the verdict alone, with some loss that parts the set
-abbrev pub JudgedOf : Links → ℕ → Set → Verdict StationSet → Type 0
+abbrev pub JudgedOf : Links → ℕ → Set → Answer StationSet → Type 0
 JudgedOf L k s Holds = Answers L 256 k s HOLDS
 JudgedOf L k s Few = Answers L 256 k s FEW
 JudgedOf L k s (Weak p) = (k < size 256 s) × Rattle.mesh.specs.Mesh.Weak L 256 k s (members p)

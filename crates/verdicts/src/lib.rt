@@ -11,7 +11,7 @@ use stations::StationSet;
 
 // What the holding question says of a set: it holds, it has k stations or fewer, or it is weak.
 #[derive(Clone, Copy)]
-pub enum Verdict<W> {
+pub enum Answer<W> {
     Holds,
     Few,
     Weak(W),
@@ -74,28 +74,28 @@ fn first_weak(piece: Piece, loss: StationSet) -> StationSet
 }
 
 // Does the set hold at k? If not, it has k stations or fewer, or its weak set is the smallest and first.
-pub fn full_verdict(piece: Piece, k: usize) -> Verdict<StationSet>
+pub fn verdict(piece: Piece, k: usize) -> Answer<StationSet>
     ensures { Answers (linked piece.entry.table.now) 256 k (members piece.entry.stations) (reply result) }
 {
     if piece.stations.size() <= k {
-        return Verdict::Few;
+        return Answer::Few;
     }
     match smallest(piece, k) {
-        Some(pair) => Verdict::Weak(first_weak(piece, pair.loss)),
-        None => Verdict::Holds,
+        Some(pair) => Answer::Weak(first_weak(piece, pair.loss)),
+        None => Answer::Holds,
     }
 }
 
 // The verdict alone: does the set hold at k, has it k stations or fewer, or does some loss of fewer than k part it?
-pub fn judge(piece: Piece, k: usize) -> Verdict<StationSet>
+pub fn judge(piece: Piece, k: usize) -> Answer<StationSet>
     ensures { JudgedOf (linked piece.entry.table.now) k (members piece.entry.stations) result }
 {
     let size = piece.stations.size();
     if size <= k {
-        return Verdict::Few;
+        return Answer::Few;
     }
     match piece.weak(k) {
-        Some(pair) => Verdict::Weak(pair.loss),
-        None => Verdict::Holds,
+        Some(pair) => Answer::Weak(pair.loss),
+        None => Answer::Holds,
     }
 }

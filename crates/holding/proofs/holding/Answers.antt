@@ -9,4 +9,4 @@ returns-in_err-mesh c = let a = c.args in
 pub returns : goal.returns
 returns c = let a = c.args in
     let s = c.in_ok-mesh.ensures.same in
-    replied a.n a.table.now a.k a.set.now c.in_ok-mesh.ensures.refused c.of_row.result c.of_row.ensures c.full_verdict-told.result (rw s.1 at c.full_verdict-told.ensures)
+    replied a.n a.table.now a.k a.set.now c.in_ok-mesh.ensures.refused c.of_row.result c.of_row.ensures c.verdict-told.result (rw s.1 at c.verdict-told.ensures)
