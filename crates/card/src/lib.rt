@@ -65,11 +65,7 @@ pub fn test_level(k: usize) -> Result<(), Refusal>
 pub fn rows(n: usize, k: usize) -> usize
     ensures { result ≡ R n k }
 {
-    if n <= k {
-        return 0;
-    }
-    let over = n - k;
-    over / 2 + over % 2
+    n.saturating_sub(k).div_ceil(2)
 }
 
 // 5: a list of `words` words has room for R rows.

@@ -1,5 +1,6 @@
 // The steps of `flow`: a search from the starts of a net, and the way back along it, which makes a linkage greater by one chain.
-// Each station holds a station, itself at first. `first` has the stations that hold the source: the starts of the chains so far.
+// Each station holds a station, itself at first. `first` has the stations that hold the source: the starts of the chains so far. What a station holds, and
+// where a search came from, are two arrays of 256 bytes: nothing is on the heap.
 ghost use Rattle.std.specs.Prelude.{ℕ};
 ghost use Rattle.stations.specs.Words.{members};
 ghost use Rattle.mesh.specs.Table.{Fits};

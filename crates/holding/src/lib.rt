@@ -2,6 +2,7 @@
 #![tactic(auto)]
 
 ghost use Rattle.std.specs.Prelude.{◌≡◌, IfOk};
+ghost use Rattle.stations.specs.Words.{words, row};
 ghost use Rattle.card.specs.Card.{number_of, FirstFailing};
 ghost use Rattle.holding.specs.Reply.{verdict, order, Replies, Judges};
 ghost use Rattle.holding.specs.Steps.{alone};
@@ -11,18 +12,22 @@ use pairs::Piece;
 use stations::StationSet;
 use verdicts::Answer;
 
-// The tests of both questions, in the order 2, 3, 4, 1, 6.
-fn accept<'a>(n: usize, table: &'a [u64], k: usize, set: &[u64]) -> Result<Mesh<'a>, Refusal>
+// The tests of both questions, in the order 2, 3, 4, 1, 6, and the set that passes them. Its four words are read where they lie, so they may be a row of
+// a list.
+fn accept<'a>(n: usize, table: &'a [u64], k: usize, set: &[u64]) -> Result<Piece<'a>, Refusal>
     ensures refused { FirstFailing (order n table.now k set.now) (number_of result) }
-    ensures same { IfOk result (λ m. (m.n ≡ n) × (m.table ≡ table.entry)) }
+    ensures same { IfOk result (λ p. (p.table ≡ table.entry) × (words p.stations ≡ row set.now 0)) }
 {
     let mesh = Mesh::accept(n, table)?;
     card::test_level(k)?;
     card::test_set(n, set)?;
-    Ok(mesh)
+    Ok(Piece {
+        table: mesh.table,
+        stations: StationSet::of_row(set, 0),
+    })
 }
 
-// The holding question. The four words are read where they lie, so they may be a row of a list.
+// The holding question.
 pub fn holding(
     n: usize,
     table: &[u64],
@@ -31,11 +36,7 @@ pub fn holding(
 ) -> Result<Answer<StationSet>, Refusal>
     ensures { Replies n table.now k set.now result }
 {
-    let mesh = accept(n, table, k, set)?;
-    let piece = Piece {
-        table: mesh.table,
-        stations: StationSet::of_row(set, 0),
-    };
+    let piece = accept(n, table, k, set)?;
     let told = verdicts::verdict(piece, k);
     Ok(told)
 }
@@ -56,11 +57,7 @@ pub fn judged(n: usize, table: &[u64], k: usize, set: &[u64]) -> Result<Answer<(
     ensures { Judges n table.now k set.now result }
 {
     let asked = accept(n, table, k, set)?;
-    let piece = Piece {
-        table: asked.table,
-        stations: StationSet::of_row(set, 0),
-    };
-    let brief = alone(verdicts::judge(piece, k));
+    let brief = alone(verdicts::judge(asked, k));
     Ok(brief)
 }
 

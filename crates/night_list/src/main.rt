@@ -7,7 +7,8 @@ ghost use Rattle.std.specs.Prelude.{◌≤◌, length, IfOk};
 use std::io;
 use std::io::{Read, Write};
 
-// Reads until the buffer is full or the input ends; how many bytes there are.
+// Reads until the buffer is full or the input ends; how many bytes there are. std's own way to the end of an input fills a `Vec`, and nothing here is
+// on the heap.
 fn read_full<R: Read>(input: &mut R, bytes: &mut [u8]) -> io::Result<usize>
     ensures { IfOk result (λ n. n ≤ length bytes.new) }
 {

@@ -52,6 +52,7 @@ impl<'a> Piece<'a> {
         let mut sources = among;
         let mut u = from;
         let mut level = most;
+        // A `for` over the levels could not hand the pair out by its label.
         'pairs: loop {
             if level == 0 {
                 break None;

@@ -262,7 +262,8 @@ impl StationSet {
         self == o
     }
 
-    // Does this set come before the other?
+    // Does this set come before the other? It is no `Ord`: the laws of that range over words beyond 64 bits too, where sets that differ can have the
+    // same stations.
     pub fn before(self, o: StationSet) -> bool
         ensures { Order (members self) (members o) result }
     {
@@ -336,7 +337,7 @@ impl Iterator for Bits {
     }
 }
 
-// The order question: the caller's own row that comes first (rules O1 to O3).
+// The order question: the caller's own row that comes first (rules O1 to O3). It has no refusal: where a row has not four words, the reply has none.
 pub fn first_row<'a>(x: &'a [u64], y: &'a [u64]) -> &'a [u64]
     ensures { FirstRow x.entry y.entry result }
 {

@@ -9,4 +9,4 @@ returns-in_err-asked c = let a = c.args in
 pub returns : goal.returns
 returns c = let a = c.args in
     let s = c.in_ok-asked.ensures.same in
-    rw c.alone-brief.ensures (judged_reply a.n a.table.now a.k a.set.now c.in_ok-asked.ensures.refused c.of_row.result c.of_row.ensures c.judge.result (rw s.1 at c.judge.ensures))
+    rw c.alone-brief.ensures (judged_reply a.n a.table.now a.k a.set.now c.in_ok-asked.ensures.refused c.in_ok-asked.asked.stations s.1 c.judge.result (rw s.0 at c.judge.ensures))
