@@ -27,7 +27,7 @@ fn accept<'a>(n: usize, table: &'a [u64], k: usize, set: &[u64]) -> Result<Piece
     })
 }
 
-// The holding question.
+// The holding question. Refusals in the order 2, 3, 4, 1, 6.
 pub fn holding(
     n: usize,
     table: &[u64],
@@ -52,7 +52,7 @@ fn alone(told: Answer<StationSet>) -> Answer<()>
     }
 }
 
-// The holding question for the verdict alone: one search.
+// The holding question for the verdict alone: one search. Refusals in the order 2, 3, 4, 1, 6.
 pub fn judged(n: usize, table: &[u64], k: usize, set: &[u64]) -> Result<Answer<()>, Refusal>
     ensures { Judges n table.now k set.now result }
 {

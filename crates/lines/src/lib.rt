@@ -1,4 +1,4 @@
-// The lines of the night list. A sheet is a lent buffer with a place in it, and each method puts a line behind what stands there. The room that each asks
+// The lines of the night list. A sheet is a lent buffer with a place in it, and what is put goes behind what stands there. The room that each asks
 // for is a little more than its line's: a number is given room for twenty digits.
 #![tactic(auto)]
 
@@ -18,12 +18,12 @@ pub struct Sheet<'a> {
 }
 
 impl<'a> Sheet<'a> {
-    // Nothing stands yet.
-    pub fn new(bytes: &'a mut [u8]) -> Sheet<'a>
+    // The bytes before `at` stand already.
+    pub fn new(bytes: &'a mut [u8], at: usize) -> Sheet<'a>
         ensures same { result.bytes.ghost_name ≡ bytes.entry.ghost_name }
-        ensures nothing { (result.at ≡ 0) × (result.bytes.now ≡ bytes.old) }
+        ensures begins { (result.at ≡ at) × (result.bytes.now ≡ bytes.old) }
     {
-        Sheet { bytes, at: 0 }
+        Sheet { bytes, at }
     }
 
     // How many bytes stand.

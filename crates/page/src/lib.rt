@@ -97,7 +97,7 @@ pub fn night_list(survey: &[u8], page: &mut [u8]) -> Result<usize, Refusal>
     if page.len() < 262144 {
         return Err(Refusal::Room);
     }
-    let mut sheet = Sheet::new(page);
+    let mut sheet = Sheet::new(page, 0);
     print(survey, &mut sheet);
     Ok(sheet.length())
 }

@@ -224,7 +224,7 @@ impl StationSet {
     }
 
     // Takes the smallest station out.
-    pub fn pop_first(&mut self) -> Option<usize>
+    fn pop_first(&mut self) -> Option<usize>
         ensures { Popped (members self.old) result (members self.new) }
     {
         if self.a != 0 {

@@ -9,7 +9,7 @@ ghost use Rattle.verdicts.specs.Verdicts.{SmallestOf, SmallestWeak, FirstWeak, T
 use pairs::{Piece, WeakPair};
 use stations::StationSet;
 
-// What the holding question says of a set: it holds, it has k stations or fewer, or it is weak.
+// What is said of a set: it holds, it has k stations or fewer, or it is weak, by the loss W.
 #[derive(Clone, Copy)]
 pub enum Answer<W> {
     Holds,
@@ -86,7 +86,7 @@ pub fn verdict(piece: Piece, k: usize) -> Answer<StationSet>
     }
 }
 
-// The verdict alone: does the set hold at k, has it k stations or fewer, or does some loss of fewer than k part it?
+// The verdict alone, by one search: where the set is weak, it comes with some loss of fewer than k that parts it, not with the smallest and first.
 pub fn judge(piece: Piece, k: usize) -> Answer<StationSet>
     ensures { JudgedOf (linked piece.entry.table.now) k (members piece.entry.stations) result }
 {
