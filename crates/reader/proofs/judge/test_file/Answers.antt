@@ -17,6 +17,13 @@ both c =
     let r = c.records-file.ensures in
     rw c.and.ensures (first_and (ROOM n c.args.serials c.args.words ∷ []) (SERIAL n bs ∷ LINK n m bs ∷ []) c.test_room.result c.test_records.result (omega arith, tt) (rw r.1 at c.test_room.ensures) (rw (r.0, r.1, r.2) at c.test_records.ensures))
 
+pub returns-in_err-heading-clause-tested : goal.returns-in_err-heading-clause-tested
+returns-in_err-heading-clause-tested c =
+    let bs = c.args.bytes.now in
+    let last : List Test = rest bs (stations bs) (records bs) c.args.serials c.args.words in
+    first_go (MARK bs ∷ []) (VERSION bs ∷ COUNT bs ∷ LENGTH bs ∷ last) _ (omega arith, tt) c.in_ok-test_mark.ensures
+    (first_exit (VERSION bs ∷ COUNT bs ∷ LENGTH bs ∷ []) last _ _ c.from_residual-in_err-heading.ensures.1 c.in_err-heading.ensures.tested)
+
 pub returns-in_err-and-clause-tested : goal.returns-in_err-and-clause-tested
 returns-in_err-and-clause-tested c =
     order_rest c.args.bytes.now c.in_ok-heading.heading c.args.serials c.args.words _ c.in_ok-test_mark.ensures c.in_ok-heading.ensures.tested c.in_ok-heading.ensures.heads
