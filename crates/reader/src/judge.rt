@@ -56,7 +56,9 @@ fn test_room(n: usize, serials: usize, words: usize) -> Result<(), Refusal>
 
 // 12, 13: the records, once the file has its length.
 fn test_records(file: Records) -> Result<(), Refusal>
-    ensures { FirstFailing (SERIAL file.entry.stations file.entry.bytes.now ∷ LINK file.entry.stations file.entry.links file.entry.bytes.now ∷ []) (number_of result) }
+    ensures { FirstFailing
+        (SERIAL file.entry.stations file.entry.bytes.now ∷ LINK file.entry.stations file.entry.links file.entry.bytes.now ∷ [])
+        (number_of result) }
 {
     file.test_serials()?;
     file.test_links()

@@ -22,7 +22,7 @@ pub struct Heading {
 
 impl Heading {
     // The records of the file that it heads.
-    pub(crate) fn records<'a>(self, bytes: &'a [u8]) -> Records<'a>
+    pub(crate) fn records(self, bytes: &[u8]) -> Records<'_>
         requires { Heads bytes.now self }
         ensures { (result.bytes ≡ bytes.entry) × (result.stations ≡ self.stations) × (result.links ≡ self.links) }
     {

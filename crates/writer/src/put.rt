@@ -1,13 +1,10 @@
 // A whole file put into a buffer of exactly its length: the head, the serials, the links.
 ghost use Rattle.std.specs.Prelude.{◌≡◌, ◌+◌, ◌*◌, ◌<◌, ◌≤◌, length};
-ghost use Rattle.stations.specs.Sets.{size};
-ghost use Rattle.stations.specs.Words.{members};
 ghost use Rattle.records.specs.Bytes.{short, Kept};
 ghost use Rattle.records.specs.Survey.{link_count};
-ghost use Rattle.writer.specs.Steps.{Put, HeadPut, SerialsPut, LinksPut, Ready, FilePut};
+ghost use Rattle.writer.specs.Steps.{HeadPut, SerialsPut, AllLinksPut, Ready, FilePut};
 
 use card::Mesh;
-use stations::StationSet;
 
 // The mark, the version and the two counts.
 fn put_head(bytes: &mut [u8], n: usize, m: usize)
@@ -42,7 +39,7 @@ fn put_link(bytes: &mut [u8], at: usize, a: usize, b: usize)
 // Every link of the mesh behind the serials: station by station, and of each the ones above it, lowest first.
 fn put_links(bytes: &mut [u8], mesh: Mesh)
     requires { 9 + mesh.n * 4 + link_count mesh.n mesh.table.now * 4 ≤ length bytes.old }
-    ensures { LinksPut mesh.entry.n mesh.entry.table.now (9 + mesh.entry.n * 4) (9 + mesh.entry.n * 4 + link_count mesh.entry.n mesh.entry.table.now * 4) bytes.old bytes.new }
+    ensures { AllLinksPut mesh.entry.n mesh.entry.table.now bytes.old bytes.new }
 {
     let mut place = 9 + mesh.n * 4;
     for a in 0..mesh.n {
