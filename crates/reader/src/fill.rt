@@ -2,15 +2,15 @@
 ghost use Rattle.std.specs.Prelude.{◌≡◌, ◌+◌, ◌*◌, ◌<◌, ◌≤◌, length};
 ghost use Rattle.reader.specs.Steps.{Accepted, SerialsFilled, LinkPut, Filled};
 
-use crate::Heading;
+use records::Records;
 
 // The serials of the file into their buffer.
-pub(crate) fn fill_serials(bytes: &[u8], serials: &mut [u32])
-    requires { 9 + length serials.old * 4 ≤ length bytes.now }
-    ensures { SerialsFilled bytes.now (length serials.old) serials.old serials.new }
+pub(crate) fn fill_serials(file: Records, serials: &mut [u32])
+    requires { length serials.old ≤ file.stations }
+    ensures { SerialsFilled file.entry.bytes.now (length serials.old) serials.old serials.new }
 {
     for (i, serial) in serials.iter_mut().enumerate() {
-        *serial = records::long_at(bytes, 9 + i * 4);
+        *serial = file.serial(i);
     }
 }
 
@@ -23,24 +23,22 @@ fn put_link(table: &mut [u64], a: usize, b: usize)
 }
 
 // The links of the file into a table of zeros, each in both rows.
-fn fill_links(bytes: &[u8], n: usize, m: usize, table: &mut [u64])
-    requires { Accepted bytes.now n m × Filled bytes.now n 0 table.old }
-    ensures { Filled bytes.now n m table.new }
+fn fill_links(file: Records, table: &mut [u64])
+    requires { Accepted file.bytes.now file.stations file.links × Filled file.bytes.now file.stations 0 table.old }
+    ensures { Filled file.entry.bytes.now file.entry.stations file.entry.links table.new }
 {
-    let from = 9 + n * 4;
-    for j in 0..m {
-        let a = records::short_at(bytes, from + j * 4);
-        let b = records::short_at(bytes, from + j * 4 + 2);
+    for j in 0..file.links {
+        let (a, b) = file.link(j);
         put_link(table, a, b);
         put_link(table, b, a);
     }
 }
 
 // The table of the file into its buffer.
-pub(crate) fn fill_table(bytes: &[u8], heading: Heading, table: &mut [u64])
-    requires { Accepted bytes.now heading.stations heading.links × (length table.old ≡ heading.stations * 4) }
-    ensures { Filled bytes.now heading.stations heading.links table.new }
+pub(crate) fn fill_table(file: Records, table: &mut [u64])
+    requires { Accepted file.bytes.now file.stations file.links × (length table.old ≡ file.stations * 4) }
+    ensures { Filled file.entry.bytes.now file.entry.stations file.entry.links table.new }
 {
     table.fill(0);
-    fill_links(bytes, heading.stations, heading.links, table);
+    fill_links(file, table);
 }

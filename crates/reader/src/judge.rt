@@ -6,6 +6,7 @@ ghost use Rattle.reader.specs.Steps.{Heads};
 
 use crate::Heading;
 use card::Refusal;
+use records::Records;
 
 // 8: nine bytes or more, that begin with the mark.
 fn test_mark(bytes: &[u8]) -> Result<(), Refusal>
@@ -54,12 +55,13 @@ fn test_room(n: usize, serials: usize, words: usize) -> Result<(), Refusal>
 }
 
 // 12, 13: the records, once the file has its length.
-fn test_records(bytes: &[u8], n: usize, m: usize) -> Result<(), Refusal>
-    requires { (n ≤ 256) × (9 + n * 4 + m * 4 ≤ length bytes.now) }
-    ensures { FirstFailing (SERIAL n bytes.now ∷ LINK n m bytes.now ∷ []) (number_of result) }
+fn test_records(file: Records) -> Result<(), Refusal>
+    ensures { FirstFailing
+        (SERIAL file.entry.stations file.entry.bytes.now ∷ LINK file.entry.stations file.entry.links file.entry.bytes.now ∷ [])
+        (number_of result) }
 {
-    records::test_serials(bytes, n)?;
-    records::test_links(bytes, n, m)
+    file.test_serials()?;
+    file.test_links()
 }
 
 // Every test of the reader: 8, 9, 10, 11, 14, 12, 13.
@@ -69,8 +71,7 @@ pub(crate) fn test_file(bytes: &[u8], serials: usize, words: usize) -> Result<He
 {
     test_mark(bytes)?;
     let heading = heading(bytes)?;
-    let n = heading.stations;
-    let m = heading.links;
-    test_room(n, serials, words).and(test_records(bytes, n, m))?;
+    let file = heading.records(bytes);
+    test_room(file.stations, serials, words).and(test_records(file))?;
     Ok(heading)
 }

@@ -2,9 +2,12 @@
 // fills the buffers.
 #![tactic(auto)]
 
+ghost use Rattle.std.specs.Prelude.{◌≡◌};
 ghost use Rattle.reader.specs.Reply.{Reads};
+ghost use Rattle.reader.specs.Steps.{Heads};
 
 use card::Refusal;
+use records::Records;
 
 mod fill;
 mod judge;
@@ -17,14 +20,29 @@ pub struct Heading {
     pub links: usize,
 }
 
+impl Heading {
+    // The records of the file that it heads.
+    pub(crate) fn records(self, bytes: &[u8]) -> Records<'_>
+        requires { Heads bytes.now self }
+        ensures { (result.bytes ≡ bytes.entry) × (result.stations ≡ self.stations) × (result.links ≡ self.links) }
+    {
+        Records {
+            bytes,
+            stations: self.stations,
+            links: self.links,
+        }
+    }
+}
+
 // The reader. Refusals in the order 8, 9, 10, 11, 14, 12, 13.
 pub fn read(bytes: &[u8], serials: &mut [u32], table: &mut [u64]) -> Result<Heading, Refusal>
     ensures { Reads bytes.now serials.old table.old serials.new table.new result }
 {
     let heading = judge::test_file(bytes, serials.len(), table.len())?;
+    let file = heading.records(bytes);
     let n = heading.stations;
     let words = n * 4;
-    fill::fill_serials(bytes, &mut serials[..n]);
-    fill::fill_table(bytes, heading, &mut table[..words]);
+    fill::fill_serials(file, &mut serials[..n]);
+    fill::fill_table(file, &mut table[..words]);
     Ok(heading)
 }

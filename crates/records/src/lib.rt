@@ -5,6 +5,7 @@ ghost use Rattle.std.specs.Prelude.{[], ◌∷◌, ◌≡◌, ◌+◌, ◌*◌, 
 ghost use Rattle.card.specs.Card.{number_of, FirstFailing};
 ghost use Rattle.records.specs.Bytes.{short, long, Octets, Kept};
 ghost use Rattle.records.specs.Lines.{SERIAL, LINK, GIVEN_SERIAL};
+ghost use Rattle.records.specs.Survey.{serial, low, high};
 ghost use Rattle.records.specs.Steps.{SerialAt, LinkAt};
 
 use card::Refusal;
@@ -43,58 +44,83 @@ pub fn put_long(bytes: &mut [u8], at: usize, x: u32)
     bytes[at..at + 4].copy_from_slice(&x.to_le_bytes());
 }
 
-// The serial record at a place, where it is above the last serial.
-fn serial_record(bytes: &[u8], at: usize, last: u32) -> Option<u32>
-    requires { at + 4 ≤ length bytes.now }
-    ensures { SerialAt bytes.now at last result }
-{
-    let x = long_at(bytes, at);
-    if last < x { Some(x) } else { None }
+// The records of a survey file of so many stations and links: behind the head the serials, then the links.
+#[derive(Clone, Copy)]
+pub struct Records<'a> {
+    pub bytes: &'a [u8],
+    pub stations: usize,
+    pub links: usize,
+    ghost few: { stations ≤ 256 },
+    ghost room: { 9 + stations * 4 + links * 4 ≤ length bytes.now },
 }
 
-// The link record at a place, where a < b < n and its number a * 256 + b is above that of the last link.
-fn link_record(bytes: &[u8], at: usize, n: usize, last: usize) -> Option<(usize, usize)>
-    requires { at + 4 ≤ length bytes.now }
-    ensures { LinkAt bytes.now at n last result }
-{
-    let a = short_at(bytes, at);
-    let b = short_at(bytes, at + 2);
-    if a < b && b < n && last < a * 256 + b {
-        Some((a, b))
-    } else {
-        None
+impl<'a> Records<'a> {
+    // The serial of station i.
+    pub fn serial(self, i: usize) -> u32
+        requires { i < self.stations }
+        ensures { result ≡ serial 4 self.entry.bytes.now i }
+    {
+        long_at(self.bytes, 9 + i * 4)
     }
-}
 
-// 12: no serial of the file is 0, and each is above the one before.
-pub fn test_serials(bytes: &[u8], n: usize) -> Result<(), Refusal>
-    requires { 9 + n * 4 ≤ length bytes.now }
-    ensures { FirstFailing (SERIAL n bytes.now ∷ []) (number_of result) }
-{
-    let mut last = 0;
-    for i in 0..n {
-        let Some(x) = serial_record(bytes, 9 + i * 4, last) else {
-            return Err(Refusal::Serial);
-        };
-        last = x;
+    // The two stations of link j.
+    pub fn link(self, j: usize) -> (usize, usize)
+        requires { j < self.links }
+        ensures { (result.0 ≡ low 4 self.entry.stations self.entry.bytes.now j) × (result.1 ≡ high 4 self.entry.stations self.entry.bytes.now j) }
+    {
+        let at = 9 + self.stations * 4 + j * 4;
+        (short_at(self.bytes, at), short_at(self.bytes, at + 2))
     }
-    Ok(())
-}
 
-// 13: each link is a pair a < b < n, and comes after the one before.
-pub fn test_links(bytes: &[u8], n: usize, m: usize) -> Result<(), Refusal>
-    requires { (n ≤ 256) × (9 + n * 4 + m * 4 ≤ length bytes.now) }
-    ensures { FirstFailing (LINK n m bytes.now ∷ []) (number_of result) }
-{
-    let from = 9 + n * 4;
-    let mut last = 0;
-    for j in 0..m {
-        let Some((a, b)) = link_record(bytes, from + j * 4, n, last) else {
-            return Err(Refusal::Link);
-        };
-        last = a * 256 + b;
+    // The serial of station i, where it is above the last serial.
+    fn serial_record(self, i: usize, last: u32) -> Option<u32>
+        requires { i < self.stations }
+        ensures { SerialAt self.entry.bytes.now (9 + i * 4) last result }
+    {
+        let x = self.serial(i);
+        if last < x { Some(x) } else { None }
     }
-    Ok(())
+
+    // Link j, where a < b < n and its number a * 256 + b is above that of the last link.
+    fn link_record(self, j: usize, last: usize) -> Option<(usize, usize)>
+        requires { j < self.links }
+        ensures { LinkAt self.entry.bytes.now (9 + self.entry.stations * 4 + j * 4) self.entry.stations last result }
+    {
+        let (a, b) = self.link(j);
+        if a < b && b < self.stations && last < a * 256 + b {
+            Some((a, b))
+        } else {
+            None
+        }
+    }
+
+    // 12: no serial of the file is 0, and each is above the one before.
+    pub fn test_serials(self) -> Result<(), Refusal>
+        ensures { FirstFailing (SERIAL self.entry.stations self.entry.bytes.now ∷ []) (number_of result) }
+    {
+        let mut last = 0;
+        for i in 0..self.stations {
+            let Some(x) = self.serial_record(i, last) else {
+                return Err(Refusal::Serial);
+            };
+            last = x;
+        }
+        Ok(())
+    }
+
+    // 13: each link is a pair a < b < n, and comes after the one before.
+    pub fn test_links(self) -> Result<(), Refusal>
+        ensures { FirstFailing (LINK self.entry.stations self.entry.links self.entry.bytes.now ∷ []) (number_of result) }
+    {
+        let mut last = 0;
+        for j in 0..self.links {
+            let Some((a, b)) = self.link_record(j, last) else {
+                return Err(Refusal::Link);
+            };
+            last = a * 256 + b;
+        }
+        Ok(())
+    }
 }
 
 // 12, of the serials that a writer is given: n of them, none 0, each above the one before.

@@ -31,6 +31,10 @@ pub record SerialsPut (n : ℕ) (serials bs bs' : List ℕ) : Type 0 where
 abbrev pub LinksPut : ℕ → List ℕ → ℕ → ℕ → List ℕ → List ℕ → Type 0
 LinksPut n t at r bs bs' = Put (n * 256) (links t) (λ x. x / 256) (λ x. x % 256) at r bs bs'
 
+-- and all of them stand behind the serials
+abbrev pub AllLinksPut : ℕ → List ℕ → List ℕ → List ℕ → Type 0
+AllLinksPut n t bs bs' = LinksPut n t (9 + n * 4) (9 + n * 4 + link_count n t * 4) bs bs'
+
 pub record Ready (n m : ℕ) (serials t : List ℕ) (room : ℕ) : Type 0 where
   pub all_serials : length serials ≡ n
   pub counted : m ≡ link_count n t

@@ -1,13 +1,10 @@
 // A whole file put into a buffer of exactly its length: the head, the serials, the links.
 ghost use Rattle.std.specs.Prelude.{◌≡◌, ◌+◌, ◌*◌, ◌<◌, ◌≤◌, length};
-ghost use Rattle.stations.specs.Sets.{size};
-ghost use Rattle.stations.specs.Words.{members};
 ghost use Rattle.records.specs.Bytes.{short, Kept};
 ghost use Rattle.records.specs.Survey.{link_count};
-ghost use Rattle.writer.specs.Steps.{Put, HeadPut, SerialsPut, LinksPut, Ready, FilePut};
+ghost use Rattle.writer.specs.Steps.{HeadPut, SerialsPut, AllLinksPut, Ready, FilePut};
 
 use card::Mesh;
-use stations::StationSet;
 
 // The mark, the version and the two counts.
 fn put_head(bytes: &mut [u8], n: usize, m: usize)
@@ -39,29 +36,18 @@ fn put_link(bytes: &mut [u8], at: usize, a: usize, b: usize)
     records::put_short(bytes, at + 2, b as u16);
 }
 
-// The links of station a with the stations of the row, lowest first; the place after the last.
-fn put_row(bytes: &mut [u8], at: usize, a: usize, row: StationSet) -> usize
-    requires { (a < 256) × (at + size 256 (members row) * 4 ≤ length bytes.old) }
-    ensures { Put 256 (members row) (λ b. a) (λ b. b) at result bytes.old bytes.new }
+// Every link of the mesh behind the serials: station by station, and of each the ones above it, lowest first.
+fn put_links(bytes: &mut [u8], mesh: Mesh)
+    requires { 9 + mesh.n * 4 + link_count mesh.n mesh.table.now * 4 ≤ length bytes.old }
+    ensures { AllLinksPut mesh.entry.n mesh.entry.table.now bytes.old bytes.new }
 {
-    let mut place = at;
-    for b in row {
-        put_link(bytes, place, a, b);
-        place += 4;
-    }
-    place
-}
-
-// Every link of the mesh.
-fn put_links(bytes: &mut [u8], at: usize, mesh: Mesh) -> usize
-    requires { at + link_count mesh.n mesh.table.now * 4 ≤ length bytes.old }
-    ensures { LinksPut mesh.entry.n mesh.entry.table.now at result bytes.old bytes.new }
-{
-    let mut place = at;
+    let mut place = 9 + mesh.n * 4;
     for a in 0..mesh.n {
-        place = put_row(bytes, place, a, crate::judge::above(mesh, a));
+        for b in crate::judge::above(mesh, a) {
+            put_link(bytes, place, a, b);
+            place += 4;
+        }
     }
-    place
 }
 
 // A whole file, of a mesh with m links, into a buffer of exactly its length.
@@ -71,5 +57,5 @@ pub(crate) fn put_file(mesh: Mesh, m: usize, serials: &[u32], bytes: &mut [u8])
 {
     put_head(bytes, mesh.n, m);
     put_serials(bytes, serials);
-    put_links(bytes, 9 + mesh.n * 4, mesh);
+    put_links(bytes, mesh);
 }

@@ -31,13 +31,6 @@ long c =
     let P = good (goal.at.After-count_links-m c).In_ok-mesh in
     length-take-le (whole c) c.args.bytes.now (omega (arith, counted c, P.fits))
 
-pub put_file-requires : goal.put_file-requires
-put_file-requires c =
-    let P = good (goal.at.put_file-requires c).In_ok-mesh in
-    let e = (goal.at.put_file-requires c).After-count_links-m in
-    let m = c.in_ok-mesh.ensures.same in
-    rw (m.0, m.1) record { all_serials = P.all_serials; counted = counted e; most = omega (arith, counted e, P.most); exact = long e }
-
 pub returns : goal.returns
 returns c =
     let e = (goal.at.returns c).After-count_links-m in

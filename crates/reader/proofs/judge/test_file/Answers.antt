@@ -14,7 +14,8 @@ both c =
     let bs = c.args.bytes.now in
     let n = c.in_ok-heading.heading.stations in
     let m = c.in_ok-heading.heading.links in
-    rw c.and.ensures (first_and (ROOM n c.args.serials c.args.words ∷ []) (SERIAL n bs ∷ LINK n m bs ∷ []) c.test_room.result c.test_records.result (omega arith, tt) c.test_room.ensures c.test_records.ensures)
+    let r = c.records-file.ensures in
+    rw c.and.ensures (first_and (ROOM n c.args.serials c.args.words ∷ []) (SERIAL n bs ∷ LINK n m bs ∷ []) c.test_room.result c.test_records.result (omega arith, tt) (rw r.1 at c.test_room.ensures) (rw (r.0, r.1, r.2) at c.test_records.ensures))
 
 pub returns-in_err-heading-clause-tested : goal.returns-in_err-heading-clause-tested
 returns-in_err-heading-clause-tested c =
