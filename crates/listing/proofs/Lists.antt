@@ -50,7 +50,6 @@ put_stored l r a b c d h = record {
   kept = record { long = put_length l r a b c d; past = put_past l r a b c d };
 }
 
--- the loop of `clear`: the words from a row's start up to p are zero
 -- a part of the list filled with zeros
 module _ (l ys : List ℕ) (a k : ℕ) (room : a + k ≤ length l) (zeros : ys ≡ replicate k 0) where
   filled_in : (q : ℕ) → a ≤ q → q < a + k → get_or (put_mid a k l ys) q 0 ≡ 0

@@ -1,6 +1,6 @@
 -- The search as the program has it: what its steps do to its fields comes to what Parting and Turning say of the rows.
 use mathlib.Core.List.{List}
-use mathlib.Core.Path.{◌≡◌, refl, sym, ap, ◌∙◌, subst, subst₂}
+use mathlib.Core.Path.{◌≡◌, refl, sym, ◌∙◌, subst, subst₂}
 use Prim.Native.Nat.{ℕ, ◌+◌, ◌*◌, ◌<◌, ◌≤◌}
 use native.Mathlib.Omega.{arith}
 use lib.ListN.{length}
@@ -9,10 +9,10 @@ use Rattle.mesh.specs.Mesh.{Holds, Weak}
 use Rattle.mesh.specs.Table.{linked}
 use Rattle.listing.specs.List.{set_at}
 use Rattle.listing.specs.Rows.{Kept, Stored}
-use Rattle.listing.specs.Steps.{Pruned, Dividing, Divided, State, Turned, above}
+use Rattle.listing.specs.Steps.{Pruned, Dividing, Divided, State, Turned}
 use Rattle.listing.specs.Searches.{Stands, Same, Later, Turn, Filled, Parted}
 use Rattle.listing.specs.declared.steps.Search.{Search}
-use Rattle.listing.proofs.Lists.{kept_none, kept_more}
+use Rattle.listing.proofs.Lists.{kept_more}
 use Rattle.listing.proofs.Parting.{Split, Cutting, cut_none, cut_all, cut_less, cut_small, cut_room, cut_large}
 use Rattle.listing.proofs.Turning.{all_done, finished, dropped, dividing, divided}
 
@@ -84,9 +84,6 @@ module _ {s : Search} {w : ℕ} {D : Set} (st : Stands w D s) (lt : s.done < s.a
         parts = subst₂ (λ (t' : List ℕ) (k : ℕ). Divided (linked t') k P u.all u.list.now t.list.now p.more) f.same.table f.same.level p.divided
 
 -- turn after turn
-pub later_none : (s : Search) → Later s s
-later_none s = record { same = same_none s; state = λ w D x. (x, kept_none w s.list.now) }
-
 pub later_turn : {r s t : Search} → Later r s → Turn s t → Later r t
 later_turn {r = r} {s = s} {t = t} a b = record { same = same_then a.same b.same; state = state }
   where
@@ -95,10 +92,6 @@ later_turn {r = r} {s = s} {t = t} a b = record { same = same_then a.same b.same
         let y = a.state w D x in
         let z = b.turned.state w D y.0 in
         (subst₂ (λ (t' : List ℕ) (k : ℕ). State t' k w D t.list.now t.done t.all) (sym b.same.table) (sym b.same.level) z.0, kept_more y.1 z.1)
-
--- the measure falls
-pub turn_less : {s t : Search} → Turn s t → above t.k (set_at t.list.now) t.done t.all < above s.k (set_at s.list.now) s.done s.all
-turn_less {s = s} {t = t} b = subst (λ (k : ℕ). above k (set_at t.list.now) t.done t.all < above s.k (set_at s.list.now) s.done s.all) (sym b.same.level) b.turned.less
 
 -- every row holds
 pub search_over : {s t : Search} {w : ℕ} {D : Set} → Later s t → t.all ≤ t.done → Stands w D s → State s.table.now s.k w D t.list.now t.done t.done × Kept w s.list.now t.list.now

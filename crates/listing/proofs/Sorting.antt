@@ -3,10 +3,9 @@
 use mathlib.Core.List.{List}
 use mathlib.Core.Logic.{◌⊎◌, inl, inr}
 use mathlib.Core.Path.{◌≡◌, refl, sym, ap, ◌∙◌, subst}
-use Prim.Native.Nat.{ℕ, ◌+◌, ◌-◌, ◌*◌, ◌<◌, ◌≤◌}
+use Prim.Native.Nat.{ℕ, ◌+◌, ◌-◌, ◌<◌, ◌≤◌}
 use native.Mathlib.Decide.{ℕ_discrete, dec_lt}
 use native.Mathlib.Omega.{arith}
-use lib.ListN.{length}
 use Rattle.stations.specs.Sets.{Set, Below, Before}
 use Rattle.stations.specs.Words.{row}
 use Rattle.stations.proofs.Laws.{has_small}
@@ -158,7 +157,6 @@ sort_none l g d = record {
 }
 
 module _ {l : List ℕ} {g i : ℕ} {l' : List ℕ} (s : Sorting l g i l') (lt : i < g) where
-
   pub sort_one : (l'' : List ℕ) → Sorted l' (i + 1) l'' → Sorting l g (i + 1) l''
   sort_one l'' t = record { from = from; onto = onto; differ = differ; order = t.order; kept = kept_more s.kept (kept_less g (omega arith) t.kept) }
     where

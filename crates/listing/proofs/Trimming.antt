@@ -23,7 +23,6 @@ abbrev pub Round : Set → Set → Set → Type 0
 Round A A' G = (size 256 A' < size 256 A) ⊎ ((size 256 A' ≡ size 256 A) × (size 256 G ≡ 0))
 
 module _ {L : Links} {k : ℕ} {P A T : Set} (s : Trimming L k P A T) (v : ℕ) (in-T : v is_in T) where
-
   -- v is taken out
   pub trim_out : Mesh L → (K A' T' : Set) → K ≡ A cut L v → size 256 K < k → A' ≡ A without only v → T' ≡ T without only v → Trimming L k P A' T'
   trim_out m K A' T' i few e d = rw (e, d) (record {
@@ -46,7 +45,6 @@ module _ {L : Links} {k : ℕ} {P A T : Set} (s : Trimming L k P A T) (v : ℕ) 
       go (inr x) = omega (arith, one, x.0)
 
 module _ {L : Links} {k : ℕ} {P A T : Set} (s : Trimming L k P A T) (G T' : Set) (e : T' ≡ G cut A) where
-
   -- the measure falls: A has lost a station, or no station is looked at again
   pub round_less : (B U : Set) → Round B A G → Below 256 U → (((x : ℕ) → x not_in U) → ⊥) → size 256 A + min 1 (size 256 T') < size 256 B + min 1 (size 256 U)
   round_less B U r below some = go r

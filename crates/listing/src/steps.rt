@@ -21,7 +21,7 @@ pub(crate) struct Search<'t, 'l> {
     pub(crate) all: usize,
 }
 
-impl<'t, 'l> Search<'t, 'l> {
+impl Search<'_, '_> {
     // The set in row i.
     fn row(&self, i: usize) -> StationSet
         requires { i * 4 + 4 ≤ length self.now.list.now }
@@ -59,8 +59,7 @@ impl<'t, 'l> Search<'t, 'l> {
     {
         let g = self.done;
         let last = self.all - 1;
-        let moved = self.row(last);
-        moved.put_row(self.list, g);
+        self.row(last).put_row(self.list, g);
         self.all = last;
     }
 

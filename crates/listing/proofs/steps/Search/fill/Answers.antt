@@ -1,6 +1,5 @@
-use mathlib.Core.Path.{refl, ap}
+use mathlib.Core.Path.{refl}
 use native.Mathlib.Omega.{arith}
-use Rattle.stations.specs.Words.{has}
 use Rattle.listing.proofs.Lists.{put_set}
 use Rattle.listing.proofs.steps.Search.fill.Goals as goal
 
@@ -9,5 +8,5 @@ returns c = record {
   same = record { table = refl; level = refl; list = refl };
   done = refl;
   all = omega arith;
-  stored = put_set c.row-moved.result c.row-moved.ensures (omega arith) c.put_row.ensures;
+  stored = put_set c.row.result c.row.ensures (omega arith) c.put_row.ensures;
 }

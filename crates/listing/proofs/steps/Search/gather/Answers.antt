@@ -1,4 +1,4 @@
-use Rattle.listing.proofs.Searching.{later_none, later_turn, turn_less, search_over}
+use Rattle.listing.proofs.Searching.{later_turn}
 use Rattle.listing.proofs.steps.Search.gather.Goals as goal
 
 pub loop-self-preserved : goal.loop-self-preserved

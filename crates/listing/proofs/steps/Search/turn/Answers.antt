@@ -1,9 +1,7 @@
-use mathlib.Core.Path.{refl, ap, subst}
-use Prim.Native.Nat.{◌<◌}
+use mathlib.Core.Path.{refl, subst}
 use native.Mathlib.Omega.{arith}
-use borrow.Author.Rules.{rules}
-use Rattle.stations.specs.Sets.{Set, size}
-use Rattle.stations.specs.Words.{has, members}
+use Rattle.stations.specs.Sets.{Set}
+use Rattle.stations.specs.Words.{members}
 use Rattle.mesh.specs.Mesh.{Holds, Weak}
 use Rattle.mesh.specs.Table.{linked}
 use Rattle.search.proofs.Reply.{safe_holds, pair_loss, weak_plain}
@@ -11,7 +9,6 @@ use Rattle.pairs.specs.Piece.{WeakOf}
 use Rattle.pairs.proofs.Starts.{below}
 use Rattle.listing.specs.List.{set_at}
 use Rattle.listing.specs.Steps.{Pruned}
-use Rattle.listing.specs.Searches.{Stands}
 use Rattle.listing.proofs.Lists.{put_set}
 use Rattle.listing.proofs.Turning.{rows_room, row_room}
 use Rattle.listing.proofs.Searching.{turn_finished, turn_dropped, turn_dividing, turn_divided}
