@@ -1,7 +1,7 @@
 // What is done to the rows of a list, four words to a row.
-ghost use Rattle.std.specs.Prelude.{◌≡◌, ℕ, ◌+◌, ◌*◌, ◌<◌, ◌≤◌, length};
+ghost use Rattle.std.specs.Prelude.{◌+◌, ◌*◌, ◌≤◌, length};
 ghost use Rattle.listing.specs.List.{set_at};
-ghost use Rattle.listing.specs.Rows.{Stored, Cleared, Different, Unsorted, Sorted};
+ghost use Rattle.listing.specs.Rows.{Cleared, Different, Unsorted, Sorted};
 
 use stations::StationSet;
 
