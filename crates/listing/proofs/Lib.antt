@@ -4,5 +4,6 @@ pub mod Trimming
 pub mod Parting
 pub mod Exchange
 pub mod Turning
+pub mod Searching
 pub mod Ending
 pub mod AllStations

@@ -1,20 +1,16 @@
 -- The rows of a list: a store changes one row, and what is kept of the words past a row is kept of the rows.
 use mathlib.Core.List.{List, [], ◌∷◌}
 use mathlib.Core.Path.{◌≡◌, refl, sym, ap, ◌∙◌, subst₂}
-use Prim.Native.Nat.{ℕ, ◌+◌, ◌-◌, ◌*◌, ◌<◌, ◌≤◌}
+use Prim.Native.Nat.{ℕ, ◌+◌, ◌*◌, ◌<◌, ◌≤◌}
 use native.Mathlib.Omega.{arith}
-use borrow.Author.Rules.{rules}
-use borrow.Rule.Slice.PartMut.{put_mid}
-use Rattle.std.proofs.Math.ListN.{replicate}
-use Rattle.std.proofs.lemmas.List.{places}
-use lib.ListN.{length, get_or, set, take, drop}
+use lib.ListN.{length, get_or, set}
 use lib.Seq.{get_or-set_other}
 use Rattle.stations.specs.Sets.{Set}
 use Rattle.stations.specs.Words.{has, members, put_row}
 use Rattle.stations.specs.declared.StationSet.{StationSet}
 use Rattle.stations.proofs.Laws.{put_length, row_put, row_put_other}
 use Rattle.listing.specs.List.{set_at}
-use Rattle.listing.specs.Rows.{Kept, Stored, Cleared}
+use Rattle.listing.specs.Rows.{Kept, Stored}
 
 pub kept_none : (c : ℕ) (l : List ℕ) → Kept c l l
 kept_none c l = record { long = refl; past = λ p h. refl }
@@ -49,32 +45,6 @@ put_stored l r a b c d h = record {
   other = λ i n. ap has (row_put_other l r a b c d i n);
   kept = record { long = put_length l r a b c d; past = put_past l r a b c d };
 }
-
--- the loop of `clear`: the words from a row's start up to p are zero
--- a part of the list filled with zeros
-module _ (l ys : List ℕ) (a k : ℕ) (room : a + k ≤ length l) (zeros : ys ≡ replicate k 0) where
-  filled_in : (q : ℕ) → a ≤ q → q < a + k → get_or (put_mid a k l ys) q 0 ≡ 0
-  filled_in q h m = rw zeros (search (rules, places))
-
-  filled_before : (q : ℕ) → q < a → get_or (put_mid a k l ys) q 0 ≡ get_or l q 0
-  filled_before q h = rw zeros (search (rules, places))
-
-  filled_past : (q : ℕ) → a + k ≤ q → get_or (put_mid a k l ys) q 0 ≡ get_or l q 0
-  filled_past q h = rw zeros (search (rules, places))
-
-  filled_long : length (put_mid a k l ys) ≡ length l
-  filled_long = rw zeros (search (rules, places))
-
-pub cleared : (l ys : List ℕ) (a e : ℕ) → a ≤ e → e * 4 ≤ length l → ys ≡ replicate (length (take (e * 4 - a * 4) (drop (a * 4) l))) 0
-    → Cleared l a e (put_mid (a * 4) (e * 4 - a * 4) l ys)
-cleared l ys a e h m zeros =
-    let part : length (take (e * 4 - a * 4) (drop (a * 4) l)) ≡ e * 4 - a * 4 = search (rules, places) in
-    let z : ys ≡ replicate (e * 4 - a * 4) 0 = zeros ∙ ap (λ (n : ℕ). replicate n 0) part in
-    record {
-      zero = λ q x y. filled_in l ys (a * 4) (e * 4 - a * 4) (omega arith) z q x (omega arith);
-      before = λ q x. filled_before l ys (a * 4) (e * 4 - a * 4) (omega arith) z q x;
-      kept = record { long = filled_long l ys (a * 4) (e * 4 - a * 4) (omega arith) z; past = λ q x. filled_past l ys (a * 4) (e * 4 - a * 4) (omega arith) z q (omega arith) };
-    }
 
 -- the words of a station set put into row r
 pub put_set : {l l' : List ℕ} {r : ℕ} {A : Set} (s : StationSet) → members s ≡ A → r * 4 + 4 ≤ length l → l' ≡ put_row l r s.a s.b s.c s.d → Stored l r A l'

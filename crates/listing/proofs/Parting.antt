@@ -18,7 +18,7 @@ use Rattle.mesh.specs.Mesh.{Links, Mesh, here, Whole, Weak}
 use Rattle.mesh.proofs.Bound.{total, total_same, weight}
 use Rattle.mesh.proofs.Chains.{touch_join, touch_back, touch_end, touch_link}
 use Rattle.mesh.proofs.Pieces.{Pieces, put, put_same, put_other, pieces_same, begin, split, drop, few_sets, halves_weigh, halves_share, halves_keep}
-use Rattle.mesh.specs.Table.{linked, Fits}
+use Rattle.mesh.specs.Table.{linked}
 use Rattle.touch.specs.Reach.{Island}
 use Rattle.listing.specs.List.{set_at}
 use Rattle.listing.specs.Rows.{Kept, Stored}
@@ -301,9 +301,6 @@ module _ {t : List ℕ} {k : ℕ} {P S : Set} {l : List ℕ} {a : ℕ} (d : Divi
   cut_none rest e = rw e (record { parting = part_none (linked t) k P S (λ i. set_at l (a + i)) d.weak.part; before = λ i h. refl; kept = kept_none (a + 0) l })
 
   module _ {rest : Set} {m : ℕ} {l' : List ℕ} (s : Cutting (linked t) k P S l a rest m l') where
-    pub cut_fits : Fits t rest
-    cut_fits j h = d.fits j (of_without P S j (s.parting.inside j h)).0
-
     pub cut_all : ((x : ℕ) → x not_in rest) → Divided (linked t) k P a l l' m
     cut_all none = record {
       pieces = part_all s.parting d.weak none;

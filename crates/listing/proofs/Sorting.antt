@@ -3,10 +3,9 @@
 use mathlib.Core.List.{List}
 use mathlib.Core.Logic.{◌⊎◌, inl, inr}
 use mathlib.Core.Path.{◌≡◌, refl, sym, ap, ◌∙◌, subst}
-use Prim.Native.Nat.{ℕ, ◌+◌, ◌-◌, ◌*◌, ◌<◌, ◌≤◌}
+use Prim.Native.Nat.{ℕ, ◌+◌, ◌-◌, ◌<◌, ◌≤◌}
 use native.Mathlib.Decide.{ℕ_discrete, dec_lt}
 use native.Mathlib.Omega.{arith}
-use lib.ListN.{length}
 use Rattle.stations.specs.Sets.{Set, Below, Before}
 use Rattle.stations.specs.Words.{row}
 use Rattle.stations.proofs.Laws.{has_small}
@@ -22,16 +21,6 @@ pub record Shifting (l : List ℕ) (i : ℕ) (s : Set) (j : ℕ) (l' : List ℕ)
   pub high : (m : ℕ) → j ≤ m → m < i → set_at l' (m + 1) ≡ set_at l m
   pub first : (m : ℕ) → j ≤ m → m < i → Before s (set_at l m)
   pub kept : Kept (i + 1) l l'
-
-pub shift_none : (l : List ℕ) (i : ℕ) (s : Set) → s ≡ set_at l i → Shifting l i s i l
-shift_none l i s e = record {
-  mine = e;
-  upto = omega arith;
-  low = λ m h. refl;
-  high = λ m h g. absurd (omega arith);
-  first = λ m h g. absurd (omega arith);
-  kept = kept_none (i + 1) l;
-}
 
 small : (l : List ℕ) (i : ℕ) → Below 256 (set_at l i)
 small l i x h = has_small (row l i) x refl h
@@ -167,13 +156,7 @@ sort_none l g d = record {
   kept = kept_none g l;
 }
 
-pub sort_all : {l l' : List ℕ} {g i : ℕ} → Sorting l g i l' → i ≡ g → Sorted l g l'
-sort_all s e = record { from = s.from; onto = s.onto; order = λ a b p q. s.order a b p (omega arith); kept = s.kept }
-
 module _ {l : List ℕ} {g i : ℕ} {l' : List ℕ} (s : Sorting l g i l') (lt : i < g) where
-  pub sort_next : g * 4 ≤ length l → Unsorted l' i
-  sort_next h = record { room = omega (arith, s.kept.long); order = s.order; differ = λ a b p q e. s.differ a b (omega arith) (omega arith) e }
-
   pub sort_one : (l'' : List ℕ) → Sorted l' (i + 1) l'' → Sorting l g (i + 1) l''
   sort_one l'' t = record { from = from; onto = onto; differ = differ; order = t.order; kept = kept_more s.kept (kept_less g (omega arith) t.kept) }
     where

@@ -22,17 +22,7 @@ pub record Trimming (L : Links) (k : ℕ) (P A T : Set) : Type 0 where
 abbrev pub Round : Set → Set → Set → Type 0
 Round A A' G = (size 256 A' < size 256 A) ⊎ ((size 256 A' ≡ size 256 A) × (size 256 G ≡ 0))
 
-pub trim_none : (L : Links) (k : ℕ) (P : Set) → Trimming L k P P P
-trim_none L k P = record { pruned = record { part = λ x h. h; keeps = λ H h p. p }; inside = λ x h. h }
-
 module _ {L : Links} {k : ℕ} {P A T : Set} (s : Trimming L k P A T) (v : ℕ) (in-T : v is_in T) where
-  -- v stays
-  pub trim_keep : (T' : Set) → T' ≡ T without only v → Trimming L k P A T'
-  trim_keep T' e = record {
-    pruned = s.pruned;
-    inside = λ x h. s.inside x (of_without T (only v) x (subst (λ (z : Set). x is_in z) e h)).0;
-  }
-
   -- v is taken out
   pub trim_out : Mesh L → (K A' T' : Set) → K ≡ A cut L v → size 256 K < k → A' ≡ A without only v → T' ≡ T without only v → Trimming L k P A' T'
   trim_out m K A' T' i few e d = rw (e, d) (record {
@@ -55,10 +45,6 @@ module _ {L : Links} {k : ℕ} {P A T : Set} (s : Trimming L k P A T) (v : ℕ) 
       go (inr x) = omega (arith, one, x.0)
 
 module _ {L : Links} {k : ℕ} {P A T : Set} (s : Trimming L k P A T) (G T' : Set) (e : T' ≡ G cut A) where
-  -- the next round begins
-  pub trim_round : Trimming L k P A T'
-  trim_round = record { pruned = s.pruned; inside = λ x h. (of_cut G A x (subst (λ (z : Set). x is_in z) e h)).1 }
-
   -- the measure falls: A has lost a station, or no station is looked at again
   pub round_less : (B U : Set) → Round B A G → Below 256 U → (((x : ℕ) → x not_in U) → ⊥) → size 256 A + min 1 (size 256 T') < size 256 B + min 1 (size 256 U)
   round_less B U r below some = go r

@@ -286,7 +286,3 @@ module _ {t l : List ℕ} {k w : ℕ} {D : Set} {g c r : ℕ} (s : State t k w D
 
   pub divided : (l'' : List ℕ) (m : ℕ) → Divided (linked t) k P r l' l'' m → Turned t k l g c l'' g (r + m)
   divided l'' m d = subst (λ (x : ℕ). Turned t k l g x l'' g (r + m)) (sym all) (divided_at state_suc before_last P pr l' st l'' m d)
-
-  -- how many rows there are then
-  pub divided_few : (l'' : List ℕ) (m : ℕ) → Divided (linked t) k P r l' l'' m → (r + m) * 4 ≤ length l
-  divided_few l'' m d = let x = divided_state state_suc before_last P pr l' st l'' m d w D state_suc in omega (arith, rows_room x.0, x.1.long)

@@ -2,3 +2,4 @@
 pub mod List
 pub mod Rows
 pub mod Steps
+pub mod Searches

@@ -5,8 +5,8 @@ ghost use Rattle.stations.specs.Words.{members};
 ghost use Rattle.listing.specs.List.{Asked, Listing};
 
 use stations::StationSet;
+use steps::Search;
 
-mod pieces;
 mod rows;
 mod steps;
 
@@ -21,8 +21,16 @@ pub fn list_within(table: &[u64], set: StationSet, k: usize, list: &mut [u64]) -
     }
     let most = (n - k + 1) / 2;
     set.put_row(list, 0);
-    let found = steps::gather(table, k, list);
-    rows::clear(list, found, most);
-    rows::sort(list, found);
+    let mut search = Search {
+        table,
+        k,
+        list,
+        done: 0,
+        all: 1,
+    };
+    search.gather();
+    let found = search.done;
+    rows::clear(search.list, found, most);
+    rows::sort(search.list, found);
     found
 }

@@ -1,19 +1,9 @@
 // What is done to the rows of a list, four words to a row.
-ghost use Rattle.std.specs.Prelude.{◌≡◌, ℕ, ◌+◌, ◌*◌, ◌<◌, ◌≤◌, length};
+ghost use Rattle.std.specs.Prelude.{◌+◌, ◌*◌, ◌≤◌, length};
 ghost use Rattle.listing.specs.List.{set_at};
-ghost use Rattle.listing.specs.Rows.{Stored, Cleared, Different, Unsorted, Sorted};
+ghost use Rattle.listing.specs.Rows.{Cleared, Different, Unsorted, Sorted};
 
 use stations::StationSet;
-
-// The last of c rows takes the place of row g. It returns how many rows are left.
-pub(crate) fn fill(list: &mut [u64], g: usize, c: usize) -> usize
-    requires { (g < c) × (c * 4 ≤ length list.old) }
-    ensures { (result + 1 ≡ c) × Stored list.old g (set_at list.old result) list.new }
-{
-    let last = c - 1;
-    StationSet::of_row(list, last).put_row(list, g);
-    last
-}
 
 // Rows `from` to `to` - 1 become zero.
 pub(crate) fn clear(list: &mut [u64], from: usize, to: usize)

@@ -1,15 +1,18 @@
-use mathlib.Core.Path.{◌≡◌, refl}
-use Prim.Native.Nat.{◌+◌, ◌-◌, ◌/◌, ◌<◌}
+use mathlib.Core.List.{List}
+use mathlib.Core.Path.{◌≡◌, refl, sym, subst}
+use Prim.Native.Nat.{ℕ, ◌+◌, ◌-◌, ◌/◌, ◌<◌}
 use native.Mathlib.Omega.{arith}
+use borrow.Author.Rules.{rules}
 use Rattle.stations.specs.Sets.{Set, size}
 use Rattle.stations.specs.Words.{members}
 use Rattle.mesh.proofs.Bound.{weight}
-use Rattle.listing.specs.List.{Asked}
+use Rattle.listing.specs.List.{Asked, Listing}
 use Rattle.listing.specs.Rows.{Kept, Stored}
 use Rattle.listing.specs.Steps.{State}
 use Rattle.listing.proofs.Lists.{put_set}
 use Rattle.listing.proofs.Ending.{nothing, first_room, begun, clear_room, sort_room, ended}
-use Rattle.listing.proofs.list_within.Goals.{After-gather-found, After-put_row, Else-n-k}
+use Rattle.listing.proofs.Searching.{search_over}
+use Rattle.listing.proofs.list_within.Goals.{After-gather, After-put_row, Else-n-k}
 use Rattle.listing.proofs.list_within.Goals as goal
 
 -- `listing::list_within` meets its contract.
@@ -30,33 +33,38 @@ module _ (c : Else-n-k) where
 stored : (c : After-put_row) → Stored c.args.list.now 0 (D (goal.at.After-put_row c).Else-n-k) c.put_row.new.t
 stored c = put_set c.args.set refl (first_room (asked (goal.at.After-put_row c).Else-n-k) (large (goal.at.After-put_row c).Else-n-k)) c.put_row.ensures
 
-gathered : (c : After-gather-found) →
-    let e = (goal.at.After-gather-found c).Else-n-k in let a = c.args in let w = weight a.k (size 256 (D e)) in
-    State a.table.now a.k w (D e) c.gather-found.new.list c.gather-found.result c.gather-found.result × Kept w c.put_row.new.t c.gather-found.new.list
+gathered : (c : After-gather) →
+    let e = (goal.at.After-gather c).Else-n-k in let a = c.args in let w = weight a.k (size 256 (D e)) in
+    State a.table.now a.k w (D e) c.gather.new.self.list.now c.gather.new.self.done c.gather.new.self.done × Kept w c.put_row.new.t c.gather.new.self.list.now
 gathered c =
-    let e = (goal.at.After-gather-found c).Else-n-k in
-    c.gather-found.ensures _ _ (begun (asked e) (large e) (stored (goal.at.After-gather-found c).After-put_row))
+    let e = (goal.at.After-gather c).Else-n-k in
+    search_over c.gather.ensures.later c.gather.ensures.over (begun (asked e) (large e) (stored (goal.at.After-gather c).After-put_row))
+
+-- a list that is read anew is what it is
+read : {l l' : List ℕ} {t : List ℕ} {D : Set} {k : ℕ} {o : List ℕ} {g : ℕ} → l' ≡ l → Listing t D k o l g → Listing t D k o l' g
+read {t = t} {D = D} {k = k} {o = o} {g = g} e x = subst (λ (u : List ℕ). Listing t D k o u g) (sym e) x
 
 pub returns-then-n-k : goal.returns-then-n-k
 returns-then-n-k c = nothing c.requires (omega (arith, c.if-n-k.true, c.size-n.ensures))
 
-pub gather-found-requires : goal.gather-found-requires
-gather-found-requires c = (_, _, begun (asked (goal.at.gather-found-requires c).Else-n-k) (large (goal.at.gather-found-requires c).Else-n-k) (stored (goal.at.gather-found-requires c).After-put_row))
+pub gather-requires : goal.gather-requires
+gather-requires c = (_, _, begun (asked (goal.at.gather-requires c).Else-n-k) (large (goal.at.gather-requires c).Else-n-k) (stored (goal.at.gather-requires c).After-put_row))
 
 pub clear-requires : goal.clear-requires
 clear-requires c =
     let e = (goal.at.clear-requires c).Else-n-k in
-    let q = (goal.at.clear-requires c).After-gather-found in
+    let q = (goal.at.clear-requires c).After-gather in
     clear_room (asked e) (large e) (stored (goal.at.clear-requires c).After-put_row) (gathered q).0 (gathered q).1 _ (most e)
 
 pub sort-requires : goal.sort-requires
 sort-requires c =
     let e = (goal.at.sort-requires c).Else-n-k in
-    let q = (goal.at.sort-requires c).After-gather-found in
+    let q = (goal.at.sort-requires c).After-gather in
     sort_room (asked e) (large e) (stored (goal.at.sort-requires c).After-put_row) (gathered q).0 (gathered q).1 (most e) c.clear.ensures
 
 pub returns : goal.returns
 returns c =
     let e = (goal.at.returns c).Else-n-k in
-    let q = (goal.at.returns c).After-gather-found in
-    ended (asked e) (large e) (stored (goal.at.returns c).After-put_row) (gathered q).0 (gathered q).1 (most e) c.clear.ensures c.sort.ensures
+    let q = (goal.at.returns c).After-gather in
+    let same = c.gather.ensures.later.same.list in
+    read (search (rules, same)) (ended (asked e) (large e) (stored (goal.at.returns c).After-put_row) (gathered q).0 (gathered q).1 (most e) c.clear.ensures c.sort.ensures)
