@@ -43,7 +43,7 @@ impl<'a> Sheet<'a> {
         self.at = end;
     }
 
-    // A number in decimal.
+    // A number in decimal, by the kit's `io`: `write!` goes to a `String`, and nothing here is on the heap.
     fn number(&mut self, x: u64)
         requires { Room 20 self.old }
         ensures { Put (decimal x) self.old self.new }

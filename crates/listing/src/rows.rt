@@ -13,7 +13,7 @@ pub(crate) fn clear(list: &mut [u64], from: usize, to: usize)
     list[from * 4..to * 4].fill(0);
 }
 
-// Puts row i in its place among the rows before it, which are in order.
+// Puts row i in its place among the rows before it, which are in order. The library sorts elements, and a row is four elements of the list.
 fn insert(list: &mut [u64], i: usize)
     requires { Unsorted list.old i }
     ensures { Sorted list.old (i + 1) list.new }

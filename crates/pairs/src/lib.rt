@@ -85,7 +85,7 @@ impl<'a> Piece<'a> {
         }
     }
 
-    // A station with the fewest links inside the piece. `from` is any of its stations.
+    // A station with the fewest links inside the piece. `from` is any of its stations. By `min_by_key` what its closure asks would be owed by hand.
     fn fewest(self, from: usize) -> usize
         requires { from is_in members self.stations }
         ensures { Fewest (linked self.entry.table.now) (members self.entry.stations) result }

@@ -19,7 +19,7 @@ pub fn short_at(bytes: &[u8], at: usize) -> usize
     usize::from(u16::from_le_bytes([bytes[at], bytes[at + 1]]))
 }
 
-// The 32-bit number at a place.
+// The 32-bit number at a place. Two widths, two functions here and below: the library has no trait over its `from_le_bytes`.
 #[tactic(auto, unfolding(crate::specs::Bytes::short, crate::specs::Bytes::long))]
 pub fn long_at(bytes: &[u8], at: usize) -> u32
     requires { at + 4 ≤ length bytes.now }

@@ -105,7 +105,7 @@ impl StationSet {
         }
     }
 
-    // The set's words into the row i of a table.
+    // The set's words into the row i of a table, one by one: for `copy_from_slice` the proof didn't close.
     pub fn put_row(self, t: &mut [u64], i: usize)
         requires { i * 4 + 4 ≤ length t.old }
         ensures { t.new ≡ put_row t.old i self.a self.b self.c self.d }
@@ -145,6 +145,7 @@ impl StationSet {
         w >> (j % 64) & 1 == 1
     }
 
+    // This one, and the three after it: a line for each word. A function over a closure would say each operation twice, in code and in clause.
     pub fn join(self, o: StationSet) -> Self
         ensures { (x : ℕ) → members result x ≡ (members self joined members o) x }
     {
