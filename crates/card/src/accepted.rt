@@ -1,4 +1,4 @@
-// A table that passed its tests: what every question goes by.
+// A table that passed its tests: what every question goes by. The questions themselves take n and the table apart, since these are what is tested.
 ghost use Rattle.std.specs.Prelude.{IfOk, ◌≡◌, ℕ, ◌<◌};
 ghost use Rattle.stations.specs.Sets.{stations};
 ghost use Rattle.stations.specs.Words.{members};

@@ -1,5 +1,6 @@
-// The questions for C and Rust callers, whose replies are numbers since C has no `Result`. A slice is a pointer and then a count of elements. Each function but desk_first_row, which has no refusal,
-// returns the refusal's number, 0 where the question is answered; the numbers lent for the reply are always written.
+// The questions for C and Rust callers, whose replies are numbers since C has no `Result`. A slice is a pointer and then a count of elements. Each function
+// but desk_first_row, which has no refusal, returns the refusal's number, 0 where the question is answered; the numbers lent for the reply are always
+// written.
 #![tactic(auto)]
 
 ghost use Rattle.std.specs.Prelude.{◌≡◌, ℕ};

@@ -19,7 +19,8 @@ pub struct Cut {
 }
 
 // Chains of links of the table inside `inner`, from a start to an end, that share no station. A station that is both is a chain by itself.
-// None says that there are as many as asked for.
+// None says that there are as many as asked for. The net is passed in its parts, as docs/ name them: each call makes
+// another one, and the search goes on with the parts.
 pub fn flow(
     table: &[u64],
     inner: StationSet,

@@ -11,6 +11,7 @@ mod rows;
 mod steps;
 
 // The groups at k within a set, in order, from row 0 of the list on; the other rows that it has room for become zero. It returns how many there are.
+// Its parameters stay apart, as docs/ name them; the steps have them in a `Search`.
 pub fn list_within(table: &[u64], set: StationSet, k: usize, list: &mut [u64]) -> usize
     requires { Asked table.now (members set) k list.old }
     ensures { Listing table.now (members set) k list.old list.new result }
@@ -19,7 +20,7 @@ pub fn list_within(table: &[u64], set: StationSet, k: usize, list: &mut [u64]) -
     if n <= k {
         return 0;
     }
-    let most = (n - k + 1) / 2;
+    let most = (n - k).div_ceil(2);
     set.put_row(list, 0);
     let mut search = Search {
         table,

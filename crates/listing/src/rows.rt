@@ -30,7 +30,7 @@ fn insert(list: &mut [u64], i: usize)
     s.put_row(list, 0);
 }
 
-// Puts the first g rows in order.
+// Puts the first g rows in order, by their numbers: no slice has a row as one element.
 pub(crate) fn sort(list: &mut [u64], g: usize)
     requires { (g * 4 ≤ length list.old) × Different g (set_at list.old) }
     ensures { Sorted list.old g list.new }

@@ -24,7 +24,7 @@ struct Survey<'m, 's> {
 }
 
 impl Survey<'_, '_> {
-    // The lines of a level: the first g rows of its list.
+    // The lines of a level: the first g rows of its list, by their numbers, since a line has its row's and a row is four elements of the list.
     fn level(&self, sheet: &mut Sheet, k: usize, list: &[u64], g: usize)
         requires { Fit k list.now g sheet.old }
         ensures { LevelPut k self.now.serials.now list.now g sheet.old sheet.new }

@@ -22,7 +22,7 @@ fn put_link(table: &mut [u64], a: usize, b: usize)
     table[a * 4 + b / 64] |= 1 << (b % 64);
 }
 
-// The links of the file into a table of zeros, each in both rows.
+// The links of the file into a table of zeros, each in both rows: by number, as `records` tells them.
 fn fill_links(file: Records, table: &mut [u64])
     requires { Accepted file.bytes.now file.stations file.links × Filled file.bytes.now file.stations 0 table.old }
     ensures { Filled file.entry.bytes.now file.entry.stations file.entry.links table.new }

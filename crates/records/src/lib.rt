@@ -10,7 +10,7 @@ ghost use Rattle.records.specs.Steps.{SerialAt, LinkAt};
 
 use card::Refusal;
 
-// The 16-bit number at a place.
+// The 16-bit number at a place: the layout of the file says where each field begins.
 #[tactic(auto, unfolding(crate::specs::Bytes::short))]
 pub fn short_at(bytes: &[u8], at: usize) -> usize
     requires { at + 2 ≤ length bytes.now }
@@ -94,7 +94,7 @@ impl<'a> Records<'a> {
         }
     }
 
-    // 12: no serial of the file is 0, and each is above the one before.
+    // 12: no serial of the file is 0, and each is above the one before. By number: a record is four bytes at a place that its number gives.
     pub fn test_serials(self) -> Result<(), Refusal>
         ensures { FirstFailing (SERIAL self.entry.stations self.entry.bytes.now ∷ []) (number_of result) }
     {
@@ -108,7 +108,7 @@ impl<'a> Records<'a> {
         Ok(())
     }
 
-    // 13: each link is a pair a < b < n, and comes after the one before.
+    // 13: each link is a pair a < b < n, and comes after the one before. By number, as the serials.
     pub fn test_links(self) -> Result<(), Refusal>
         ensures { FirstFailing (LINK self.entry.stations self.entry.links self.entry.bytes.now ∷ []) (number_of result) }
     {

@@ -91,7 +91,7 @@ impl StationSet {
         Self { a, b, c, d }
     }
 
-    // The row i of a table, four words to a row.
+    // The row i of a table, four words to a row, read one by one as `put_row` writes them.
     pub fn of_row(t: &[u64], i: usize) -> Self
         requires { i * 4 + 4 ≤ length t.now }
         ensures { words result ≡ row t.now i }
@@ -350,8 +350,5 @@ pub fn first_row<'a>(x: &'a [u64], y: &'a [u64]) -> &'a [u64]
     }
     let u = StationSet::of_row(x, 0);
     let v = StationSet::of_row(y, 0);
-    match u.differ(v).first() {
-        Some(j) => { if u.has(j) { x } else { y } }
-        None => x,
-    }
+    if v.before(u) { y } else { x }
 }

@@ -1,4 +1,4 @@
-// The island of a station inside a set. A table and a set are passed apart here: the set is another one at each call.
+// The island of a station inside a set. A table and a set are passed apart here, as docs/ name them: the set is another one at each call.
 #![tactic(auto)]
 
 ghost use Rattle.stations.specs.Words.{members};

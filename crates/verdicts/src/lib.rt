@@ -52,7 +52,7 @@ fn lead(piece: Piece, taken: StationSet, witness: StationSet, j: usize, left: us
 }
 
 // The first of the smallest weak sets. `loss` is one of them: stations are tried in ascending order, and one is taken when a
-// smallest loss has it and those taken before.
+// smallest loss has it and those taken before. `left` is how many are still to be taken: `lead` asks for it at each station.
 fn first_weak(piece: Piece, loss: StationSet) -> StationSet
     requires { SmallestWeak piece.table.now piece.stations loss }
     ensures { FirstWeak piece.entry.table.now piece.entry.stations loss result }

@@ -17,7 +17,7 @@ pub(crate) fn above(mesh: Mesh, a: usize) -> StationSet
     mesh.links(a).minus(StationSet::first_n(a + 1))
 }
 
-// How many links a mesh has.
+// How many links a mesh has. Its stations are numbers, so a range goes over them.
 pub(crate) fn count_links(mesh: Mesh) -> usize
     ensures { (result ≡ link_count mesh.entry.n mesh.entry.table.now) × (result ≤ 65536) }
 {

@@ -27,7 +27,7 @@ fn put_serials(bytes: &mut [u8], serials: &[u32])
     }
 }
 
-// One link's record.
+// One link's record at a place: two 16-bit numbers.
 fn put_link(bytes: &mut [u8], at: usize, a: usize, b: usize)
     requires { (a < 256) × (b < 256) × (at + 4 ≤ length bytes.old) }
     ensures { Kept at bytes.old bytes.new × (short bytes.new at ≡ a) × (short bytes.new (at + 2) ≡ b) }
@@ -36,7 +36,8 @@ fn put_link(bytes: &mut [u8], at: usize, a: usize, b: usize)
     records::put_short(bytes, at + 2, b as u16);
 }
 
-// Every link of the mesh behind the serials: station by station, and of each the ones above it, lowest first.
+// Every link of the mesh behind the serials: station by station, and of each the ones above it, lowest first. Stations are numbers: a range goes over
+// them. How many links came before a link is known by counting alone, so its place is counted up.
 fn put_links(bytes: &mut [u8], mesh: Mesh)
     requires { 9 + mesh.n * 4 + link_count mesh.n mesh.table.now * 4 ≤ length bytes.old }
     ensures { AllLinksPut mesh.entry.n mesh.entry.table.now bytes.old bytes.new }

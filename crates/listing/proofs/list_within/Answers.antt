@@ -1,6 +1,6 @@
 use mathlib.Core.List.{List}
 use mathlib.Core.Path.{◌≡◌, refl, sym, subst}
-use Prim.Native.Nat.{ℕ, ◌+◌, ◌-◌, ◌/◌, ◌<◌}
+use Prim.Native.Nat.{ℕ, ◌<◌}
 use native.Mathlib.Omega.{arith}
 use borrow.Author.Rules.{rules}
 use Rattle.stations.specs.Sets.{Set, size}
@@ -12,7 +12,7 @@ use Rattle.listing.specs.Steps.{State}
 use Rattle.listing.proofs.Lists.{put_set}
 use Rattle.listing.proofs.Ending.{nothing, first_room, begun, clear_room, sort_room, ended}
 use Rattle.listing.proofs.Searching.{search_over}
-use Rattle.listing.proofs.list_within.Goals.{After-gather, After-put_row, Else-n-k}
+use Rattle.listing.proofs.list_within.Goals.{After-div_ceil-most, After-gather, After-put_row, Else-n-k}
 use Rattle.listing.proofs.list_within.Goals as goal
 
 -- `listing::list_within` meets its contract.
@@ -26,9 +26,9 @@ module _ (c : Else-n-k) where
   large : c.args.k < size 256 D
   large = omega (arith, c.if-n-k.false, c.size-n.ensures)
 
-  -- the rows that there is room for
-  most : (c.size-n.result - c.args.k + 1) / 2 ≡ weight c.args.k (size 256 D)
-  most = omega (arith, large, c.size-n.ensures)
+-- the rows that there is room for
+most : (c : After-div_ceil-most) → c.div_ceil-most.result ≡ weight c.args.k (size 256 (D (goal.at.After-div_ceil-most c).Else-n-k))
+most c = omega (arith, large (goal.at.After-div_ceil-most c).Else-n-k, c.div_ceil-most.ensures, c.size-n.ensures)
 
 stored : (c : After-put_row) → Stored c.args.list.now 0 (D (goal.at.After-put_row c).Else-n-k) c.put_row.new.t
 stored c = put_set c.args.set refl (first_room (asked (goal.at.After-put_row c).Else-n-k) (large (goal.at.After-put_row c).Else-n-k)) c.put_row.ensures
@@ -54,17 +54,17 @@ pub clear-requires : goal.clear-requires
 clear-requires c =
     let e = (goal.at.clear-requires c).Else-n-k in
     let q = (goal.at.clear-requires c).After-gather in
-    clear_room (asked e) (large e) (stored (goal.at.clear-requires c).After-put_row) (gathered q).0 (gathered q).1 _ (most e)
+    clear_room (asked e) (large e) (stored (goal.at.clear-requires c).After-put_row) (gathered q).0 (gathered q).1 _ (most (goal.at.clear-requires c).After-div_ceil-most)
 
 pub sort-requires : goal.sort-requires
 sort-requires c =
     let e = (goal.at.sort-requires c).Else-n-k in
     let q = (goal.at.sort-requires c).After-gather in
-    sort_room (asked e) (large e) (stored (goal.at.sort-requires c).After-put_row) (gathered q).0 (gathered q).1 (most e) c.clear.ensures
+    sort_room (asked e) (large e) (stored (goal.at.sort-requires c).After-put_row) (gathered q).0 (gathered q).1 (most (goal.at.sort-requires c).After-div_ceil-most) c.clear.ensures
 
 pub returns : goal.returns
 returns c =
     let e = (goal.at.returns c).Else-n-k in
     let q = (goal.at.returns c).After-gather in
     let same = c.gather.ensures.later.same.list in
-    read (search (rules, same)) (ended (asked e) (large e) (stored (goal.at.returns c).After-put_row) (gathered q).0 (gathered q).1 (most e) c.clear.ensures c.sort.ensures)
+    read (search (rules, same)) (ended (asked e) (large e) (stored (goal.at.returns c).After-put_row) (gathered q).0 (gathered q).1 (most (goal.at.returns c).After-div_ceil-most) c.clear.ensures c.sort.ensures)

@@ -12,12 +12,6 @@ returns-in_err-mesh c = let a = c.args in
     rw (exit_is _ _ c.from_residual.ensures.1) (refused_reply (station_order a.n a.table.now a.a) (Standing (linked a.table.now) a.n a.a) _
     (first_stop (table_order a.n a.table.now) (STATION a.n a.a ∷ ROWS_AT_ALL a.n a.table.now ∷ []) _ c.in_err-mesh.ensures.refused))
 
-pub returns-in_err-test_station : goal.returns-in_err-test_station
-returns-in_err-test_station c = let a = c.args in
-    rw (exit_is _ _ c.from_residual-in_err-test_station.ensures.1) (refused_reply (station_order a.n a.table.now a.a) (Standing (linked a.table.now) a.n a.a) _
-    (first_go (table_order a.n a.table.now) (STATION a.n a.a ∷ ROWS_AT_ALL a.n a.table.now ∷ []) _ (table_numbered a.n a.table.now) c.in_ok-mesh.ensures.refused
-    (own_last a.n a.table.now (STATION a.n a.a) _ c.in_err-test_station.ensures)))
-
 pub returns : goal.returns
 returns c = let a = c.args in
     let s = c.in_ok-mesh.ensures.same in
