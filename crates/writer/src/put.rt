@@ -5,6 +5,7 @@ ghost use Rattle.records.specs.Survey.{link_count};
 ghost use Rattle.writer.specs.Steps.{HeadPut, SerialsPut, AllLinksPut, Ready, FilePut};
 
 use card::Mesh;
+use stations::Bits;
 
 // The mark, the version and the two counts.
 fn put_head(bytes: &mut [u8], n: usize, m: usize)
@@ -37,16 +38,21 @@ fn put_link(bytes: &mut [u8], at: usize, a: usize, b: usize)
 }
 
 // Every link of the mesh behind the serials: station by station, and of each the ones above it, lowest first. Stations are numbers: a range goes over
-// them. How many links came before a link is known by counting alone, so its place is counted up.
+// them; those above go a word and its bits at a time, since no other loop of the writer runs as often. How many links came before a link is known by
+// counting alone, so its place is counted up.
 fn put_links(bytes: &mut [u8], mesh: Mesh)
     requires { 9 + mesh.n * 4 + link_count mesh.n mesh.table.now * 4 ≤ length bytes.old }
     ensures { AllLinksPut mesh.entry.n mesh.entry.table.now bytes.old bytes.new }
 {
     let mut place = 9 + mesh.n * 4;
     for a in 0..mesh.n {
-        for b in crate::judge::above(mesh, a) {
-            put_link(bytes, place, a, b);
-            place += 4;
+        let words = crate::judge::above(mesh, a).words();
+        for (i, word) in words.iter().enumerate() {
+            let bits = Bits { word: *word };
+            for k in bits {
+                put_link(bytes, place, a, i * 64 + k);
+                place += 4;
+            }
         }
     }
 }
