@@ -1,6 +1,7 @@
 -- THE REFUSAL CARD, docs/CARD.md: the number of each refusal, and when it is given.
 --   number r              the card's number of the refusal r
 --   number_of r           the number of the reply r: that of its refusal, or 0
+--   value_of r            the number that the reply r tells, or 0
 --   Test                  a line of the card put to an input: its number, and what it is given exactly for
 --   FirstFailing ts r     r is the number of the first test of the list that fails; 0 where none does
 --   LEVEL k, STATIONS n, ..   the lines of the card
@@ -35,6 +36,11 @@ number Rows = 15
 abbrev pub number_of : {A : Type 0} → Result A Refusal → ℕ
 number_of (Ok a) = 0
 number_of (Err r) = number r
+
+-- the number that a reply tells; 0 for a refusal
+abbrev pub value_of : Result ℕ Refusal → ℕ
+value_of (Ok x) = x
+value_of (Err r) = 0
 
 pub record Test : Type 1 where
   pub refusal : ℕ

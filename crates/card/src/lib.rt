@@ -5,7 +5,7 @@ ghost use Rattle.std.specs.Prelude.{[], ◌∷◌, ◌≡◌, ℕ, ◌+◌, ◌*
 ghost use Rattle.stations.specs.Words.{members};
 ghost use Rattle.mesh.specs.Mesh.{R};
 ghost use Rattle.mesh.specs.Table.{Fits, Fault};
-ghost use Rattle.card.specs.Card.{number, number_of, FirstFailing, Says, LEVEL, LIST_ROOM, SET, STATION, PAIR, table_order};
+ghost use Rattle.card.specs.Card.{number, number_of, value_of, FirstFailing, Says, LEVEL, LIST_ROOM, SET, STATION, PAIR, table_order};
 ghost use Rattle.card.specs.Tests.{MirroredRow, RowFault};
 
 pub use accepted::Mesh;
@@ -48,6 +48,16 @@ pub fn number_of<T>(reply: &Result<T, Refusal>) -> u64
     match reply {
         Ok(_) => 0,
         Err(r) => u64::from(*r),
+    }
+}
+
+// The number that a reply tells, 0 for a refusal.
+pub fn value_of(reply: &Result<usize, Refusal>) -> u64
+    ensures { result ≡ value_of reply.now }
+{
+    match reply {
+        Ok(x) => *x as u64,
+        Err(_) => 0,
     }
 }
 

@@ -3,14 +3,9 @@
 // written.
 #![tactic(auto)]
 
-ghost use Rattle.std.specs.Prelude.{◌≡◌, ℕ};
-ghost use Rattle.stations.specs.Words.{members};
-ghost use Rattle.holding.specs.Reply.{weak_set};
 ghost use Rattle.desk.specs.Desk.{FirstRowDesk, RoutesDesk, HoldingDesk, VerdictDesk, ListDesk, StationDesk, PairDesk, ReadDesk, WriteDesk, PageDesk};
 
-use card::Refusal;
 use stations::StationSet;
-use verdicts::Answer;
 
 // The order question: 0 where the first row comes first, 1 where the second does. The reply is the first `words` words of that row: all four, or
 // none where one of the two rows hasn't four words.
@@ -44,22 +39,9 @@ pub extern "C" fn desk_routes(
     ensures { RoutesDesk n table.now a b result joined.new count.new }
 {
     let reply = routes::routes(n, table, a, b);
-    (*joined, *count) = match reply {
-        Ok(routes::Answer::Counted(c)) => (0, c as u64),
-        Ok(routes::Answer::Joined) => (1, 0),
-        Err(_) => (0, 0),
-    };
+    *joined = routes::joined_of(&reply);
+    *count = routes::count_of(&reply);
     card::number_of(&reply)
-}
-
-// The weak set of a reply, or the empty set.
-fn weak_set(reply: Result<Answer<StationSet>, Refusal>) -> StationSet
-    ensures { (x : ℕ) → members result x ≡ weak_set reply x }
-{
-    match reply {
-        Ok(Answer::Weak(s)) => s,
-        _ => StationSet::empty(),
-    }
 }
 
 // The holding question: 0 for HOLDS, 1 for FEW, 2 for WEAK in `verdict`, and the four words of the weak set, 0 where there is none.
@@ -79,7 +61,7 @@ pub extern "C" fn desk_holding(
 {
     let reply = holding::holding(n, table, k, set);
     *verdict = holding::verdict_of(&reply);
-    let weak = weak_set(reply);
+    let weak = holding::weak_set_of(&reply);
     *w0 = weak.a;
     *w1 = weak.b;
     *w2 = weak.c;
@@ -115,7 +97,7 @@ pub extern "C" fn desk_list(
     ensures { ListDesk n table.now k list.old list.new result groups.new }
 {
     let reply = groups::groups(n, table, k, list);
-    *groups = reply.unwrap_or(0) as u64;
+    *groups = card::value_of(&reply);
     card::number_of(&reply)
 }
 
@@ -130,7 +112,7 @@ pub extern "C" fn desk_station_standing(
     ensures { StationDesk n table.now a result standing.new }
 {
     let reply = standings::station_standing(n, table, a);
-    *standing = reply.unwrap_or(0) as u64;
+    *standing = card::value_of(&reply);
     card::number_of(&reply)
 }
 
@@ -146,7 +128,7 @@ pub extern "C" fn desk_pair_standing(
     ensures { PairDesk n table.now a b result standing.new }
 {
     let reply = standings::pair_standing(n, table, a, b);
-    *standing = reply.unwrap_or(0) as u64;
+    *standing = card::value_of(&reply);
     card::number_of(&reply)
 }
 
@@ -163,14 +145,10 @@ pub extern "C" fn desk_read(
     ensures { ReadDesk bytes.now serials.old table.old serials.new table.new result version.new n.new links.new }
 {
     let reply = reader::read(bytes, serials, table);
-    (*version, *n, *links) = match reply {
-        Ok(heading) => (
-            heading.version as u64,
-            heading.stations as u64,
-            heading.links as u64,
-        ),
-        Err(_) => (0, 0, 0),
-    };
+    let heading = reader::heading_of(&reply);
+    *version = heading.version as u64;
+    *n = heading.stations as u64;
+    *links = heading.links as u64;
     card::number_of(&reply)
 }
 
@@ -186,7 +164,7 @@ pub extern "C" fn desk_write(
     ensures { WriteDesk n serials.now table.now bytes.old bytes.new result length.new }
 {
     let written = writer::write(n, serials, table, bytes);
-    *length = written.unwrap_or(0) as u64;
+    *length = card::value_of(&written);
     card::number_of(&written)
 }
 
@@ -196,6 +174,6 @@ pub extern "C" fn desk_night_list(survey: &[u8], page: &mut [u8], length: &mut u
     ensures { PageDesk survey.now page.old page.new result length.new }
 {
     let printed = page::night_list(survey, page);
-    *length = printed.unwrap_or(0) as u64;
+    *length = card::value_of(&printed);
     card::number_of(&printed)
 }

@@ -1,10 +1,10 @@
 // The holding question: does a set hold at a level, and where it does not, which loss parts it?
 #![tactic(auto)]
 
-ghost use Rattle.std.specs.Prelude.{◌≡◌, IfOk};
-ghost use Rattle.stations.specs.Words.{words, row};
+ghost use Rattle.std.specs.Prelude.{◌≡◌, ℕ, IfOk};
+ghost use Rattle.stations.specs.Words.{words, row, members};
 ghost use Rattle.card.specs.Card.{number_of, FirstFailing};
-ghost use Rattle.holding.specs.Reply.{verdict, order, Replies, Judges};
+ghost use Rattle.holding.specs.Reply.{verdict, weak_set, order, Replies, Judges};
 ghost use Rattle.holding.specs.Steps.{alone};
 
 use card::{Mesh, Refusal};
@@ -69,5 +69,15 @@ pub fn verdict_of<W>(reply: &Result<Answer<W>, Refusal>) -> u64
         Ok(Answer::Few) => 1,
         Ok(Answer::Weak(_)) => 2,
         _ => 0,
+    }
+}
+
+// The weak set of a reply, the empty set where there is none.
+pub fn weak_set_of(reply: &Result<Answer<StationSet>, Refusal>) -> StationSet
+    ensures { (x : ℕ) → members result x ≡ weak_set reply.now x }
+{
+    match reply {
+        Ok(Answer::Weak(s)) => *s,
+        _ => StationSet::empty(),
     }
 }

@@ -3,7 +3,7 @@
 #![tactic(auto)]
 
 ghost use Rattle.std.specs.Prelude.{◌≡◌};
-ghost use Rattle.reader.specs.Reply.{Reads};
+ghost use Rattle.reader.specs.Reply.{version, stations, links, Reads};
 ghost use Rattle.reader.specs.Steps.{Heads};
 
 use card::Refusal;
@@ -45,4 +45,18 @@ pub fn read(bytes: &[u8], serials: &mut [u32], table: &mut [u64]) -> Result<Head
     fill::fill_serials(file, &mut serials[..n]);
     fill::fill_table(file, &mut table[..words]);
     Ok(heading)
+}
+
+// The heading of a reply, zeros for a refusal.
+pub fn heading_of(reply: &Result<Heading, Refusal>) -> Heading
+    ensures { (result.version ≡ version reply.now) × (result.stations ≡ stations reply.now) × (result.links ≡ links reply.now) }
+{
+    match reply {
+        Ok(heading) => *heading,
+        Err(_) => Heading {
+            version: 0,
+            stations: 0,
+            links: 0,
+        },
+    }
 }

@@ -1,8 +1,9 @@
 // The routes question: how many separate routes lead between two stations.
 #![tactic(auto)]
 
-ghost use Rattle.std.specs.Prelude.{◌≢◌, ◌<◌};
-ghost use Rattle.routes.specs.Reply.{Replies};
+ghost use Rattle.std.specs.Prelude.{◌≡◌, ◌≢◌, ◌<◌};
+ghost use Rattle.stations.specs.Sets.{one_if};
+ghost use Rattle.routes.specs.Reply.{joined, count, Replies};
 ghost use Rattle.routes.specs.Steps.{Answered};
 
 use card::{Mesh, Refusal};
@@ -36,4 +37,24 @@ pub fn routes(n: usize, table: &[u64], a: usize, b: usize) -> Result<Answer, Ref
     let mesh = Mesh::accept(n, table)?;
     card::test_pair(n, a, b)?;
     Ok(ask(mesh, a, b))
+}
+
+// 1 for the reply of a linked pair, 0 for every other reply.
+pub fn joined_of(reply: &Result<Answer, Refusal>) -> u64
+    ensures { result ≡ one_if (joined reply.now) }
+{
+    match reply {
+        Ok(Answer::Joined) => 1,
+        _ => 0,
+    }
+}
+
+// The number of separate routes in a reply, 0 for a linked pair and for a refusal.
+pub fn count_of(reply: &Result<Answer, Refusal>) -> u64
+    ensures { result ≡ count reply.now }
+{
+    match reply {
+        Ok(Answer::Counted(c)) => *c as u64,
+        _ => 0,
+    }
 }

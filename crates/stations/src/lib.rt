@@ -42,7 +42,7 @@ fn low_in(i: usize, n: usize) -> u64
 }
 
 // The place of the lowest set bit, 64 where there is none.
-fn low_bit(w: u64) -> usize
+pub fn low_bit(w: u64) -> usize
     ensures { (result ≡ count_trailing_zeros 64 w) × (result ≤ 64) }
 {
     w.trailing_zeros() as usize
