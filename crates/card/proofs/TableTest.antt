@@ -2,82 +2,104 @@
 use mathlib.Core.Bool.{Bool, true, false, not, ◌&&◌, Bool-discrete}
 use mathlib.Core.List.{List, [], ◌∷◌}
 use mathlib.Core.Logic.{◌⊎◌, inl, inr}
-use mathlib.Core.Path.{◌≡◌, refl, sym, ap, ◌∙◌}
-use Prim.Native.Nat.{ℕ, ◌+◌, ◌*◌, ◌/◌, ◌%◌, ◌^◌, ◌<◌, ◌≤◌}
+use mathlib.Core.Path.{◌≡◌, refl, sym, ap, subst, ◌∙◌}
+use Prim.Native.Nat.{ℕ, ◌+◌, ◌-◌, ◌*◌, ◌/◌, ◌%◌, ◌^◌, ◌<◌, ◌≤◌}
 use native.Mathlib.Decide.{dec_lt, ℕ_discrete}
 use native.Mathlib.Omega.{arith}
 use lib.Bits.{bit_and}
 use lib.Dec.{ltb, eqb}
 use lib.ListN.{length, get_or, get_or-eq_default}
-use borrow.Author.Tests.{eq-eqb, ne_eqb, ltb-false, le-ltb}
+use borrow.Author.Tests.{eq-eqb, ne_eqb, ltb-false, lt-ltb, le-ltb}
 use Rattle.stations.specs.Sets.{Set, ◌is_in◌}
 use Rattle.stations.specs.Answers.{BitTaken}
 use Rattle.stations.specs.Words.{bit, has, row}
 use Rattle.stations.proofs.Bools.{test, never, not_true, not_so, and_left, and_right, and_whole}
 use Rattle.stations.proofs.Counting.{any_below}
-use Rattle.stations.proofs.Bit.{bit_test, bit-none}
+use Rattle.stations.proofs.Bit.{bit_test, bit_mask, bit-and, bit-none}
 use Rattle.stations.proofs.Laws.{row_word, has_at, has_small, has_beyond}
 use Rattle.mesh.specs.Table.{linked, Table, Fault, self_link, one_sided, from_n_up}
 use Rattle.card.specs.Tests.{MirroredRow, RowFault}
 use Rattle.card.specs.Card.{Says, FirstFailing, SET}
 use Rattle.mesh.specs.Mesh.{Mesh}
 
--- ---- the code's reading of one bit of the table
-pub linked_yes : (t : List ℕ) (v i : ℕ) → i < 256 → bit_and (get_or t (v * 4 + i / 64) 0 / 2 ^ (i % 64)) 1 ≡ 1 → linked t v i ≡ true
-linked_yes t v i h e = row_word t v i h ∙ sym (bit_test (get_or t (v * 4 + i / 64) 0) (i % 64)) ∙ eq-eqb (bit_and (get_or t (v * 4 + i / 64) 0 / 2 ^ (i % 64)) 1) 1 e
+-- ---- the code's reading of one bit of a word
+pub bit_there : (w k : ℕ) → bit_and (w / 2 ^ k) 1 ≡ 1 → bit w k ≡ true
+bit_there w k e = sym (bit_test w k) ∙ eq-eqb (bit_and (w / 2 ^ k) 1) 1 e
 
-pub linked_no : (t : List ℕ) (v i : ℕ) → i < 256 → (bit_and (get_or t (v * 4 + i / 64) 0 / 2 ^ (i % 64)) 1 ≡ 1 → ⊥) → linked t v i ≡ false
-linked_no t v i h e = row_word t v i h ∙ sym (bit_test (get_or t (v * 4 + i / 64) 0) (i % 64)) ∙ ne_eqb (bit_and (get_or t (v * 4 + i / 64) 0 / 2 ^ (i % 64)) 1) 1 e
+pub bit_missing : (w k : ℕ) → (bit_and (w / 2 ^ k) 1 ≡ 1 → ⊥) → bit w k ≡ false
+bit_missing w k e = sym (bit_test w k) ∙ ne_eqb (bit_and (w / 2 ^ k) 1) 1 e
 
 -- ---- the walk over the stations of row i: those past have i in their rows, and `left` are still to come
 -- the stations of the row in the words before word q
 pub record Mirroring (t : List ℕ) (i : ℕ) (row : Set) (q : ℕ) : Type 0 where
   pub past : (j : ℕ) → j < q * 64 → j is_in row → linked t j i ≡ true
 
--- and those of word q, where w has the bits that are still to come
-pub record Looking (t : List ℕ) (i q word w : ℕ) : Type 0 where
+-- and those of word q, where w has the bits that are still to come: all of them have i in their rows, or one of them has not
+pub record Looking (t : List ℕ) (i q word w : ℕ) (all : Bool) : Type 0 where
   pub mine : (k : ℕ) → bit w k ≡ true → bit word k ≡ true
-  pub seen : (k : ℕ) → bit word k ≡ true → bit w k ≡ false → linked t (q * 64 + k) i ≡ true
+  pub seen : all ≡ true → (k : ℕ) → bit word k ≡ true → bit w k ≡ false → linked t (q * 64 + k) i ≡ true
+  pub other : all ≡ false → (k : ℕ) × (k < 64) × (bit word k ≡ true) × (linked t (q * 64 + k) i ≡ false)
 
 pub mirroring_none : (t : List ℕ) (i : ℕ) (row : Set) → Mirroring t i row 0
 mirroring_none t i row = record { past = λ j l m. absurd (omega arith) }
 
-pub looking_none : (t : List ℕ) (i q word : ℕ) → Looking t i q word word
-looking_none t i q word = record { mine = λ k e. e; seen = λ k e f. never (bit word k) e f }
-
-pub looking_more : {t : List ℕ} {i q k word w w' : ℕ} → Looking t i q word w → BitTaken w k w' → linked t (q * 64 + k) i ≡ true → Looking t i q word w'
-looking_more {t} {i} {q} {k} {word} {w} {w'} g p e = record {
-  mine = λ x m. g.mine x (and_left (bit w x) (not (eqb x k)) (sym (p.rest x) ∙ m));
-  seen = λ x m f. go x m f (ℕ_discrete x k);
+-- no bit of the word is looked at
+pub looking_none : (t : List ℕ) (i q word : ℕ) → Looking t i q word word (bit (2 ^ 64 - 1) (i % 64))
+looking_none t i q word = record {
+  mine = λ k e. e;
+  seen = λ _ k e f. never (bit word k) e f;
+  other = λ e. never (bit (2 ^ 64 - 1) (i % 64)) (bit_mask 64 (i % 64) ∙ lt-ltb (i % 64) 64 (omega arith)) e;
 }
-  where
-    go : (x : ℕ) → bit word x ≡ true → bit w' x ≡ false → Dec (x ≡ k) → linked t (q * 64 + x) i ≡ true
-    go x m f (yes d) = rw d e
-    go x m f (no d) = g.seen x m (sym (and_whole (bit w x)) ∙ ap (λ (b : Bool). bit w x && not b) (sym (ne_eqb x k d)) ∙ sym (p.rest x) ∙ f)
+
+module _ {t : List ℕ} {i q k word w w' : ℕ} (p : BitTaken w k w') where
+  with_one : {all : Bool} → Looking t i q word w all → Looking t i q word w' (all && linked t (q * 64 + k) i)
+  with_one {all} g = record {
+    mine = λ x m. g.mine x (and_left (bit w x) (not (eqb x k)) (sym (p.rest x) ∙ m));
+    seen = λ o x m f. go o x m f (ℕ_discrete x k);
+    other = λ o. one all o g.other;
+  }
+    where
+      go : (all && linked t (q * 64 + k) i) ≡ true → (x : ℕ) → bit word x ≡ true → bit w' x ≡ false → Dec (x ≡ k) → linked t (q * 64 + x) i ≡ true
+      go o x m f (yes d) = rw d (and_right all (linked t (q * 64 + k) i) o)
+      go o x m f (no d) = g.seen (and_left all (linked t (q * 64 + k) i) o) x m
+          (sym (and_whole (bit w x)) ∙ ap (λ (b : Bool). bit w x && not b) (sym (ne_eqb x k d)) ∙ sym (p.rest x) ∙ f)
+
+      one : (a : Bool) → (a && linked t (q * 64 + k) i) ≡ false → (a ≡ false → (k : ℕ) × (k < 64) × (bit word k ≡ true) × (linked t (q * 64 + k) i ≡ false))
+          → (k : ℕ) × (k < 64) × (bit word k ≡ true) × (linked t (q * 64 + k) i ≡ false)
+      one true o h = (k, p.small, g.mine k p.mine, o)
+      one false o h = h refl
+
+  pub looking_more : (seen : ℕ) → i < 256 → Looking t i q word w (bit seen (i % 64))
+      → Looking t i q word w' (bit (bit_and seen (get_or t ((q * 64 + k) * 4 + i / 64) 0)) (i % 64))
+  looking_more seen h g =
+      let x : ℕ = get_or t ((q * 64 + k) * 4 + i / 64) 0 in
+      let e : bit (bit_and seen x) (i % 64) ≡ (bit seen (i % 64) && linked t (q * 64 + k) i)
+          = bit-and seen x (i % 64) ∙ ap (λ (b : Bool). bit seen (i % 64) && b) (sym (row_word t (q * 64 + k) i h)) in
+      subst (Looking t i q word w') (sym e) (with_one g)
 
 -- a bit of word q is a station of the row
 pub word_station : (ws : List ℕ) (q k : ℕ) → k < 64 → has ws (q * 64 + k) ≡ bit (get_or ws q 0) k
 word_station ws q k l = has_at ws (q * 64 + k) q k (omega arith) (omega arith)
 
-pub mirroring_word : {t : List ℕ} {i q word w : ℕ} (ws : List ℕ) → word ≡ get_or ws q 0 → Mirroring t i (has ws) q → Looking t i q word w → ((k : ℕ) → bit w k ≡ false)
-    → Mirroring t i (has ws) (q + 1)
-mirroring_word {t} {i} {q} {word} {w} ws e g p z = record { past = λ j l m. go j l m (dec_lt j (q * 64)) }
+pub mirroring_word : {t : List ℕ} {i q word w : ℕ} {all : Bool} (ws : List ℕ) → word ≡ get_or ws q 0 → Mirroring t i (has ws) q → Looking t i q word w all
+    → all ≡ true → ((k : ℕ) → bit w k ≡ false) → Mirroring t i (has ws) (q + 1)
+mirroring_word {t} {i} {q} {word} {w} ws e g p o z = record { past = λ j l m. go j l m (dec_lt j (q * 64)) }
   where
     go : (j : ℕ) → j < (q + 1) * 64 → has ws j ≡ true → Dec (j < q * 64) → linked t j i ≡ true
     go j l m (yes h) = g.past j h m
     go j l m (no h) =
         let f : q * 64 + j % 64 ≡ j = omega arith in
         let b : bit word (j % 64) ≡ true = ap (λ (x : ℕ). bit x (j % 64)) e ∙ sym (word_station ws q (j % 64) (omega arith)) ∙ ap (has ws) f ∙ m in
-        rw f at (p.seen (j % 64) b (z (j % 64)))
+        rw f at (p.seen o (j % 64) b (z (j % 64)))
 
 pub mirrored_all : {t : List ℕ} {i : ℕ} (ws : List ℕ) (q : ℕ) → length ws ≡ 4 → 4 ≤ q → Mirroring t i (has ws) q → MirroredRow t i (has ws) true
 mirrored_all ws q l h g = record { each = λ _ j m. g.past j (omega (arith, has_small ws j l m)) m; one = λ e. never true refl e }
 
-pub mirrored_one : {t : List ℕ} {i q k word w w' : ℕ} (ws : List ℕ) → word ≡ get_or ws q 0 → Looking t i q word w → BitTaken w k w' → linked t (q * 64 + k) i ≡ false
+pub mirrored_one : {t : List ℕ} {i q word w : ℕ} {all : Bool} (ws : List ℕ) → word ≡ get_or ws q 0 → Looking t i q word w all → all ≡ false
     → MirroredRow t i (has ws) false
-mirrored_one {q = q} {k = k} ws e p b f = record {
+mirrored_one {q = q} ws e p o = record {
   each = λ x. never false x refl;
-  one = λ _. (q * 64 + k, word_station ws q k b.small ∙ ap (λ (x : ℕ). bit x k) (sym e) ∙ p.mine k b.mine, f);
+  one = λ _. let (k, l, m, f) = p.other o in (q * 64 + k, word_station ws q k l ∙ ap (λ (x : ℕ). bit x k) (sym e) ∙ m, f);
 }
 
 -- ---- a row, and all rows

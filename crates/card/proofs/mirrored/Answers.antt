@@ -1,12 +1,12 @@
 use mathlib.Core.Bool.{true}
 use mathlib.Core.Path.{◌≡◌, refl}
-use Prim.Native.Nat.{◌+◌, ◌*◌}
+use Prim.Native.Nat.{◌+◌, ◌*◌, ◌%◌}
 use native.Mathlib.Omega.{arith}
 use lib.ListN.{get_or}
 use Rattle.stations.specs.Sets.{◌is_in◌}
 use Rattle.stations.specs.Words.{bit, members}
 use Rattle.stations.proofs.Laws.{of_word}
-use Rattle.card.proofs.TableTest.{mirroring_none, mirroring_word, looking_none, looking_more, mirrored_all, mirrored_one, linked_yes, linked_no}
+use Rattle.card.proofs.TableTest.{mirroring_none, mirroring_word, looking_none, looking_more, mirrored_all, mirrored_one, bit_there, bit_missing}
 use Rattle.card.proofs.mirrored.Goals.{In-Some}
 use Rattle.card.proofs.mirrored.Goals as goal
 
@@ -25,18 +25,15 @@ loop-k-init c = rw c.into_iter-k-iterator.ensures.into_iter_gives (looking_none 
 pub bounds-table-j : goal.bounds-table-j
 bounds-table-j c = omega (arith, c.requires.0, c.requires.1 (c.loop-q.q * 64 + c.in-Some.k) (mine (goal.at.bounds-table-j c).In-Some))
 
-pub returns-then-table-j-ne1 : goal.returns-then-table-j-ne1
-returns-then-table-j-ne1 c = rw c.words-words.ensures at (
-    mirrored_one c.words-words.result refl c.loop-k.invariant c.in-Some.ensures.steps
-    (linked_no c.args.table.now (c.loop-q.q * 64 + c.in-Some.k) c.args.i c.requires.0 c.if-table-j-ne1.true)
-    )
-
 pub loop-k-preserved : goal.loop-k-preserved
-loop-k-preserved c = looking_more c.loop-k.invariant c.in-Some.ensures.steps
-    (linked_yes c.args.table.now (c.loop-q.q * 64 + c.in-Some.k) c.args.i c.requires.0 c.if-table-j-ne1.false)
+loop-k-preserved c = looking_more c.in-Some.ensures.steps c.loop-k.seen c.requires.0 c.loop-k.invariant
+
+pub returns-then-seen-i-ne1 : goal.returns-then-seen-i-ne1
+returns-then-seen-i-ne1 c = rw c.words-words.ensures at (mirrored_one c.words-words.result refl c.loop-k.invariant (bit_missing c.loop-k.seen (c.args.i % 64) c.if-seen-i-ne1.true))
 
 pub loop-q-preserved : goal.loop-q-preserved
-loop-q-preserved c = mirroring_word c.words-words.result refl c.loop-q.invariant c.loop-k.invariant c.in-None.ensures.steps.0
+loop-q-preserved c =
+    mirroring_word c.words-words.result refl c.loop-q.invariant c.loop-k.invariant (bit_there c.loop-k.seen (c.args.i % 64) c.if-seen-i-ne1.false) c.in-None.ensures.steps.0
 
 pub returns : goal.returns
 returns c = rw c.words-words.ensures at (mirrored_all c.words-words.result c.loop-q.q (rw c.words-words.ensures refl) c.loop-q-test.false c.loop-q.invariant)
