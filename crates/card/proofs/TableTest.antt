@@ -64,7 +64,8 @@ module _ {t : List ℕ} {i q k word w w' : ℕ} (p : BitTaken w k w') where
       go o x m f (no d) = g.seen (and_left all (linked t (q * 64 + k) i) o) x m
           (sym (and_whole (bit w x)) ∙ ap (λ (b : Bool). bit w x && not b) (sym (ne_eqb x k d)) ∙ sym (p.rest x) ∙ f)
 
-      one : (a : Bool) → (a && linked t (q * 64 + k) i) ≡ false → (a ≡ false → (k : ℕ) × (k < 64) × (bit word k ≡ true) × (linked t (q * 64 + k) i ≡ false))
+      one : (a : Bool) → (a && linked t (q * 64 + k) i) ≡ false
+          → (a ≡ false → (k : ℕ) × (k < 64) × (bit word k ≡ true) × (linked t (q * 64 + k) i ≡ false))
           → (k : ℕ) × (k < 64) × (bit word k ≡ true) × (linked t (q * 64 + k) i ≡ false)
       one true o h = (k, p.small, g.mine k p.mine, o)
       one false o h = h refl
@@ -74,15 +75,15 @@ module _ {t : List ℕ} {i q k word w w' : ℕ} (p : BitTaken w k w') where
   looking_more seen h g =
       let x : ℕ = get_or t ((q * 64 + k) * 4 + i / 64) 0 in
       let e : bit (bit_and seen x) (i % 64) ≡ (bit seen (i % 64) && linked t (q * 64 + k) i)
-          = bit-and seen x (i % 64) ∙ ap (λ (b : Bool). bit seen (i % 64) && b) (sym (row_word t (q * 64 + k) i h)) in
+      = bit-and seen x (i % 64) ∙ ap (λ (b : Bool). bit seen (i % 64) && b) (sym (row_word t (q * 64 + k) i h)) in
       subst (Looking t i q word w') (sym e) (with_one g)
 
 -- a bit of word q is a station of the row
 pub word_station : (ws : List ℕ) (q k : ℕ) → k < 64 → has ws (q * 64 + k) ≡ bit (get_or ws q 0) k
 word_station ws q k l = has_at ws (q * 64 + k) q k (omega arith) (omega arith)
 
-pub mirroring_word : {t : List ℕ} {i q word w : ℕ} {all : Bool} (ws : List ℕ) → word ≡ get_or ws q 0 → Mirroring t i (has ws) q → Looking t i q word w all
-    → all ≡ true → ((k : ℕ) → bit w k ≡ false) → Mirroring t i (has ws) (q + 1)
+pub mirroring_word : {t : List ℕ} {i q word w : ℕ} {all : Bool} (ws : List ℕ) → word ≡ get_or ws q 0 → Mirroring t i (has ws) q
+    → Looking t i q word w all → all ≡ true → ((k : ℕ) → bit w k ≡ false) → Mirroring t i (has ws) (q + 1)
 mirroring_word {t} {i} {q} {word} {w} ws e g p o z = record { past = λ j l m. go j l m (dec_lt j (q * 64)) }
   where
     go : (j : ℕ) → j < (q + 1) * 64 → has ws j ≡ true → Dec (j < q * 64) → linked t j i ≡ true

@@ -128,7 +128,7 @@ pub fn test_set(n: usize, set: &[u64]) -> Result<(), Refusal>
 }
 
 // Does each station of the row have station i in its own row? Each question tests its table so: going over words and their bits takes half the time of
-// going over the row's stations. What all the stations of a word have in their rows is joined first and looked at once.
+// going over the row's stations. Of a word's stations what the rows of all of them have is kept, and looked at once.
 fn mirrored(table: &[u64], i: usize, row: StationSet) -> bool
     requires { (i < 256) × Fits table.now (members row) }
     ensures { MirroredRow table.now i (members row) result }

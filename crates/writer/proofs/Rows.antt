@@ -1,5 +1,5 @@
--- The loop over the words of a row, and in it the loop over the set bits of a word, lowest first, that list the stations of the row: `past` is the place up
--- to which the bits of the word are listed, and w has the others.
+-- The loop over the words of a row, and in it the loop over the set bits of a word, lowest first, that list the stations of the row: `past` is the
+-- place up to which the bits of the word are listed, and w has the others.
 use mathlib.Core.Bool.{true, false, not}
 use mathlib.Core.List.{List}
 use mathlib.Core.Path.{◌≡◌, refl, sym, ap, subst, ◌∙◌}
@@ -58,7 +58,8 @@ module _ {word w a base at place : ℕ} {bs bs' : List ℕ} (G : Walking word w 
       small = p.small;
       mine = λ k h. G.mine k (was k h);
       from = λ k h. beyond k (was k h) (and_right (bit w k) (not (eqb k low)) (sym (p.rest k) ∙ h)) (dec_lt k low) (ℕ_discrete k low);
-      others = λ k m h. p.rest k ∙ and_in (bit w k) (not (eqb k low)) (G.others k (omega (arith, G.from low p.mine)) h) (ap not (ne_eqb k low (λ q. omega arith)));
+      others = λ k m h.
+          p.rest k ∙ and_in (bit w k) (not (eqb k low)) (G.others k (omega (arith, G.from low p.mine)) h) (ap not (ne_eqb k low (λ q. omega arith)));
       put = put_one up_to (G.mine low p.mine) K e f;
     }
       where
@@ -92,13 +93,22 @@ module _ {ws : List ℕ} {i a at place : ℕ} {bs bs' : List ℕ} (P : Listed ws
   word_room l r =
       let rest : ℕ = 256 - (i * 64 + 64) in
       let e : i * 64 + 64 + rest ≡ 256 = omega arith in
-      omega (arith, ap (λ (N : ℕ). size N (has ws)) e, size-add (i * 64) 64 (has ws), size-add (i * 64 + 64) rest (has ws),
-          size_ext 64 (λ x. has ws (i * 64 + x)) (bit (get_or ws i 0)) (word_at ws i), P.put.next, P.put.kept.whole)
+      omega (
+        arith,
+        ap (λ (N : ℕ). size N (has ws)) e,
+        size-add (i * 64) 64 (has ws),
+        size-add (i * 64 + 64) rest (has ws),
+        size_ext 64 (λ x. has ws (i * 64 + x)) (bit (get_or ws i 0)) (word_at ws i),
+        P.put.next,
+        P.put.kept.whole,
+      )
 
-  pub listed_more : {r : ℕ} {bs'' : List ℕ} → i < 4 → Put 64 (bit (get_or ws i 0)) (λ k. a) (λ k. i * 64 + k) place r bs' bs'' → Listed ws (i + 1) a at r bs bs''
+  pub listed_more : {r : ℕ} {bs'' : List ℕ} → i < 4 → Put 64 (bit (get_or ws i 0)) (λ k. a) (λ k. i * 64 + k) place r bs' bs''
+      → Listed ws (i + 1) a at r bs bs''
   listed_more {r} {bs''} l Q = record {
     few = omega arith;
     put = let e : i * 64 + 64 ≡ (i + 1) * 64 = omega arith in
         subst (λ (N : ℕ). Put N (has ws) (λ b. a) (λ b. b) at r bs bs'') e
-        (put_join P.put 64 (put_same Q (λ x. has ws (i * 64 + x)) (λ x. a) (λ x. i * 64 + x) (λ x h. sym (word_at ws i x h)) (λ x h. refl) (λ x h. refl)));
+        (put_join P.put 64
+        (put_same Q (λ x. has ws (i * 64 + x)) (λ x. a) (λ x. i * 64 + x) (λ x h. sym (word_at ws i x h)) (λ x h. refl) (λ x h. refl)));
   }

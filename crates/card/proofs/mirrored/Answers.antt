@@ -29,11 +29,13 @@ pub loop-k-preserved : goal.loop-k-preserved
 loop-k-preserved c = looking_more c.in-Some.ensures.steps c.loop-k.seen c.requires.0 c.loop-k.invariant
 
 pub returns-then-seen-i-ne1 : goal.returns-then-seen-i-ne1
-returns-then-seen-i-ne1 c = rw c.words-words.ensures at (mirrored_one c.words-words.result refl c.loop-k.invariant (bit_missing c.loop-k.seen (c.args.i % 64) c.if-seen-i-ne1.true))
+returns-then-seen-i-ne1 c = rw c.words-words.ensures at (
+    mirrored_one c.words-words.result refl c.loop-k.invariant (bit_missing c.loop-k.seen (c.args.i % 64) c.if-seen-i-ne1.true)
+    )
 
 pub loop-q-preserved : goal.loop-q-preserved
-loop-q-preserved c =
-    mirroring_word c.words-words.result refl c.loop-q.invariant c.loop-k.invariant (bit_there c.loop-k.seen (c.args.i % 64) c.if-seen-i-ne1.false) c.in-None.ensures.steps.0
+loop-q-preserved c = mirroring_word c.words-words.result refl c.loop-q.invariant c.loop-k.invariant
+    (bit_there c.loop-k.seen (c.args.i % 64) c.if-seen-i-ne1.false) c.in-None.ensures.steps.0
 
 pub returns : goal.returns
 returns c = rw c.words-words.ensures at (mirrored_all c.words-words.result c.loop-q.q (rw c.words-words.ensures refl) c.loop-q-test.false c.loop-q.invariant)
