@@ -34,7 +34,7 @@ bit_missing w k e = sym (bit_test w k) ∙ ne_eqb (bit_and (w / 2 ^ k) 1) 1 e
 pub record Mirroring (t : List ℕ) (i : ℕ) (row : Set) (q : ℕ) : Type 0 where
   pub past : (j : ℕ) → j < q * 64 → j is_in row → linked t j i ≡ true
 
--- and those of word q, where w has the bits that are still to come: all of them have i in their rows, or one of them has not
+-- and those of word q, where w has the bits that are still to come: of those past all have i in their rows, or one of them has not
 pub record Looking (t : List ℕ) (i q word w : ℕ) (all : Bool) : Type 0 where
   pub mine : (k : ℕ) → bit w k ≡ true → bit word k ≡ true
   pub seen : all ≡ true → (k : ℕ) → bit word k ≡ true → bit w k ≡ false → linked t (q * 64 + k) i ≡ true

@@ -6,7 +6,7 @@ use lib.ListN.{get_or}
 use Rattle.stations.specs.Sets.{◌is_in◌}
 use Rattle.stations.specs.Words.{bit, members}
 use Rattle.stations.proofs.Laws.{of_word}
-use Rattle.card.proofs.TableTest.{mirroring_none, mirroring_word, looking_none, looking_more, mirrored_all, mirrored_one, bit_there, bit_missing}
+use Rattle.card.proofs.TableTest.{mirroring_word, looking_none, looking_more, mirrored_all, mirrored_one, bit_there, bit_missing}
 use Rattle.card.proofs.mirrored.Goals.{In-Some}
 use Rattle.card.proofs.mirrored.Goals as goal
 
@@ -15,9 +15,6 @@ mine : (c : In-Some) → (c.loop-q.q * 64 + c.in-Some.k) is_in members c.args.ro
 mine c =
     let b : bit (get_or c.words-words.result c.loop-q.q 0) c.in-Some.k ≡ true = c.loop-k.invariant.mine c.in-Some.k c.in-Some.ensures.steps.mine in
     rw c.words-words.ensures at (of_word c.words-words.result c.loop-q.q (c.loop-q.q * 64) c.in-Some.k refl c.in-Some.ensures.steps.small b)
-
-pub loop-q-init : goal.loop-q-init
-loop-q-init c = mirroring_none _ _ _
 
 pub loop-k-init : goal.loop-k-init
 loop-k-init c = rw c.into_iter-k-iterator.ensures.into_iter_gives (looking_none _ _ _ _)

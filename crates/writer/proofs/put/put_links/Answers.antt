@@ -52,8 +52,3 @@ loop-a-preserved c =
     = rw c.words-words.ensures c.above.ensures in
     links_more c.args.mesh.table.now c.loop-a.a (has c.words-words.result) law c.loop-a.invariant
     (listed_all c.loop-i.invariant (omega (arith, c.loop-i-test.false)))
-
-pub returns : goal.returns
-returns c = let e : c.loop-a.a ≡ c.args.mesh.n = omega arith in
-    let P = rw e at c.loop-a.invariant in
-    rw (← P.next) P
