@@ -14,7 +14,7 @@ use Rattle.stations.specs.Words.{bit, has}
 use Rattle.stations.specs.Answers.{BitTaken}
 use Rattle.stations.proofs.Bools.{never, and_left, and_right, and_in, not_true, not_so}
 use Rattle.stations.proofs.Counting.{size-add, size_ext}
-use Rattle.stations.proofs.Laws.{has_at}
+use Rattle.card.proofs.TableTest.{word_station}
 use Rattle.records.specs.Bytes.{short, Kept}
 use Rattle.writer.specs.Steps.{Put}
 use Rattle.writer.proofs.Listing.{rank_less, put_none, put_skip, put_one, put_join, put_same}
@@ -80,9 +80,6 @@ pub record Listed (ws : List ℕ) (i a at place : ℕ) (bs bs' : List ℕ) : Typ
 pub listed_none : (ws : List ℕ) (a at : ℕ) (bs : List ℕ) → Listed ws 0 a at at bs bs
 listed_none ws a at bs = record { few = omega arith; put = put_none (has ws) (λ b. a) (λ b. b) at bs }
 
-word_at : (ws : List ℕ) (i k : ℕ) → k < 64 → has ws (i * 64 + k) ≡ bit (get_or ws i 0) k
-word_at ws i k l = has_at ws (i * 64 + k) i k (omega arith) (omega arith)
-
 module _ {ws : List ℕ} {i a at place : ℕ} {bs bs' : List ℕ} (P : Listed ws i a at place bs bs') where
   pub listed_all : 4 ≤ i → Put 256 (has ws) (λ b. a) (λ b. b) at place bs bs'
   listed_all l = let e : i * 64 ≡ 256 = omega (arith, P.few) in
@@ -98,7 +95,7 @@ module _ {ws : List ℕ} {i a at place : ℕ} {bs bs' : List ℕ} (P : Listed ws
         ap (λ (N : ℕ). size N (has ws)) e,
         size-add (i * 64) 64 (has ws),
         size-add (i * 64 + 64) rest (has ws),
-        size_ext 64 (λ x. has ws (i * 64 + x)) (bit (get_or ws i 0)) (word_at ws i),
+        size_ext 64 (λ x. has ws (i * 64 + x)) (bit (get_or ws i 0)) (word_station ws i),
         P.put.next,
         P.put.kept.whole,
       )
@@ -110,5 +107,5 @@ module _ {ws : List ℕ} {i a at place : ℕ} {bs bs' : List ℕ} (P : Listed ws
     put = let e : i * 64 + 64 ≡ (i + 1) * 64 = omega arith in
         subst (λ (N : ℕ). Put N (has ws) (λ b. a) (λ b. b) at r bs bs'') e
         (put_join P.put 64
-        (put_same Q (λ x. has ws (i * 64 + x)) (λ x. a) (λ x. i * 64 + x) (λ x h. sym (word_at ws i x h)) (λ x h. refl) (λ x h. refl)));
+        (put_same Q (λ x. has ws (i * 64 + x)) (λ x. a) (λ x. i * 64 + x) (λ x h. sym (word_station ws i x h)) (λ x h. refl) (λ x h. refl)));
   }
